@@ -1,0 +1,2 @@
+//! The outside of the program: files that are read, text that is written, and what they promise.
+#![tactic(auto)]
