@@ -1,1 +1,5 @@
 pub mod Bits
+pub mod Faults
+
+pub mod Shelf
+pub mod Sink

@@ -1,6 +1,16 @@
 //! The outside of the program: files that are read, text that is written, and what they promise.
 #![tactic(auto)]
 
+
+
+
 mod memory;
+mod outside;
+
+
+
+
 
 pub use memory::NoMemory;
+pub use outside::{Failed, Shelf, Sink, put_all};
+
