@@ -8,7 +8,7 @@ pub appends_more : (piece : List ℕ) (n k : ℕ) (old mid new : Taken) → Appe
 appends_more piece n k old mid new first next = record {
   tells = next.tells ∙ first.tells;
   written = λ told.
-    next.written (subst IsTrue (sym first.tells) told)
+      next.written (subst IsTrue (sym first.tells) told)
       ∙ ap (λ written. written ++ take k (drop n piece)) (first.written told)
       ∙ append_assoc old.written (take n piece) (take k (drop n piece))
       ∙ ap (λ octets. old.written ++ octets) (sym (take-add n k piece));

@@ -1,5 +1,5 @@
 pub mod Bits
 pub mod Faults
-
+pub mod MemSink
 pub mod Shelf
 pub mod Sink
