@@ -1,5 +1,6 @@
 pub mod Bits
 pub mod Faults
+pub mod MemShelf
 pub mod MemSink
 pub mod Shelf
 pub mod Sink
