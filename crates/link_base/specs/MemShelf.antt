@@ -1,5 +1,5 @@
 -- What a shelf in memory keeps. This is the project's own.
-use Rattle.std.specs.Prelude.{◌≡◌, ◌<◌, ◌≤◌, ℕ, List, [], map, drop, true, Option, Some, None, Contains, string_bytes, unwrap_or, slice_get, refl}
+use Rattle.std.specs.Prelude.{◌≡◌, ◌≢◌, ◌<◌, ◌≤◌, ℕ, zero, suc, List, [], ◌∷◌, map, length, drop, true, Option, Some, None, Contains, string_bytes, unwrap_or, slice_get, refl}
 use Rattle.std.specs.Option.{option_map}
 use Rattle.std.specs.Ordering.{nat_cmp}
 use Rattle.std.specs.Cmp.Lexicographic.{slice_cmp}
@@ -47,8 +47,25 @@ entry_at files (Some i) = option_map entry_of (slice_get files i)
 abbrev pub name_at : List File → Option ℕ → Option (List ℕ)
 name_at files place = option_map (λ entry. entry.0) (entry_at files place)
 
+abbrev pub octets_at : List File → Option ℕ → List ℕ
+octets_at files place = unwrap_or (option_map (λ entry. entry.1) (entry_at files place)) []
+
 abbrev pub left_at : List File → Option ℕ → ℕ → List ℕ
-left_at files place position = drop position (unwrap_or (option_map (λ entry. entry.1) (entry_at files place)) [])
+left_at files place position = drop position (octets_at files place)
+
+-- none, or a place in the list
+abbrev pub IsPlace : List File → Option ℕ → Type 0
+IsPlace files None = Unit {0}
+IsPlace files (Some i) = i < length files
+
+-- what holds of the places and of the position that the code keeps
+abbrev pub AreInFiles : List File → Option ℕ → Option ℕ → ℕ → Type 0
+AreInFiles files chosen failed position = IsPlace files chosen × IsPlace files failed × (position ≤ length (octets_at files chosen))
+
+-- The names at all places stay.
+pub record KeepsNames (old new : List File) : Type 0 where
+  pub longer : length old ≤ length new
+  pub names : (place : Option ℕ) → IsPlace old place → name_at new place ≡ name_at old place
 
 -- the facts as nested pairs
 abbrev Pairs : Type 0
@@ -63,3 +80,9 @@ shelf_code =
     (λ s. ((s.held, s.stops), ((s.piece, s.chosen), ((s.position, s.left), (s.failed, s.faults)))))
     (λ p. record { held = p.0.0; stops = p.0.1; piece = p.1.0.0; chosen = p.1.0.1; position = p.1.1.0.0; left = p.1.1.0.1; failed = p.1.1.1.0; faults = p.1.1.1.1 })
     (λ _. refl)
+
+-- the first file of this name stands at this place
+abbrev pub IsFirstNamed : List ℕ → List File → ℕ → Type 0
+IsFirstNamed name [] i = ⊥
+IsFirstNamed name (file ∷ files) zero = string_bytes file.name ≡ name
+IsFirstNamed name (file ∷ files) (suc i) = (string_bytes file.name ≢ name) × IsFirstNamed name files i

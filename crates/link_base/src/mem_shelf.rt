@@ -1,6 +1,7 @@
 // A shelf in memory.
-ghost use Rattle.std.specs.Prelude.{◌≡◌, ◌<◌, ◌≤◌, ◌+◌, [], ◌∷◌, ◌++◌, None, OnOk, OnErr};
-ghost use Rattle.std.specs.FinMap.{empty, insert};
+ghost use Rattle.std.specs.Prelude.{◌≡◌, ◌<◌, ◌≤◌, ◌+◌, [], ◌∷◌, ◌++◌, None, IfSome, IfNone, OnOk, OnErr};
+ghost use Rattle.std.specs.FinMap.{empty, get, insert};
+ghost use Rattle.link_base.specs.MemShelf.{held_of, IsFirstNamed, KeepsNames};
 
 use crate::NoMemory;
 use std::alloc::Global;
@@ -37,7 +38,7 @@ pub struct MemShelf {
 
 impl Model for MemShelf {
     ghost use Rattle.std.specs.Prelude.{ℕ, List, ◌<◌, ◌≤◌, map, length};
-    ghost use Rattle.link_base.specs.MemShelf.{ShelfMemory, shelf_code, held_of, stop_of, name_at, left_at};
+    ghost use Rattle.link_base.specs.MemShelf.{ShelfMemory, shelf_code, held_of, stop_of, name_at, left_at, AreInFiles};
 
     ghost Value = { ShelfMemory };
 
@@ -54,7 +55,37 @@ impl Model for MemShelf {
       faults = a.faults;
     } };
 
-    ghost invariant = { λ a. 0 < a.piece };
+    ghost invariant = { λ a. (0 < a.piece) × AreInFiles a.files.items a.chosen a.failed a.position };
+}
+
+// The place of the file of this name.
+fn place_of(files: &[File], name: &str) -> Option<usize>
+    ensures found { IfSome result (IsFirstNamed name.now files.now) }
+    ensures none { IfNone result (get (held_of files.now) name.now ≡ None) }
+{
+    for (i, file) in files.iter().enumerate() {
+        if file.name.as_str() == name {
+            return Some(i);
+        }
+    }
+    None
+}
+
+// Puts a file in the place of the one of its name, or behind the others.
+fn put(alloc: Global, files: &mut Vec<File>, name: &str, octets: &[u8]) -> Result<(), NoMemory>
+    ensures ok { OnOk result (held_of files.new.items ≡ insert (held_of files.old.items) name.now octets.now) }
+    ensures names { OnOk result (KeepsNames files.old.items files.new.items) }
+    ensures err { OnErr result (files.new.items ≡ files.old.items) }
+{
+    let octets = Vec::from_slice(alloc, octets)?;
+    match place_of(files, name) {
+        Some(place) => files[place].octets = octets,
+        None => files.push(File {
+            name: String::from_str(alloc, name)?,
+            octets,
+        })?,
+    }
+    Ok(())
 }
 
 impl MemShelf {

@@ -1,0 +1,151 @@
+-- The files of a shelf in memory, as the map from their names.
+use Rattle.std.proofs.Common.{◌≡◌, ◌≢◌, ◌+◌, ◌<◌, ◌⊎◌, ℕ, zero, suc, List, [], ◌∷◌, ◌++◌, Bool, true, false, cond, length, get_or, length-append, Option, Some, None, IfSome, IfNone, arith, refl, sym, ◌∙◌, ap, subst, add-one, Ordering}
+use Rattle.std.specs.Prelude.{map, slice_get, slice_set, string_bytes, MatchOption, position}
+use Rattle.std.specs.List.{position_from}
+use Rattle.std.specs.Option.{option_map}
+use Rattle.std.specs.Ordering.{nat_cmp, is_eq}
+use Rattle.std.specs.Str.{bytes_eq}
+use Rattle.std.specs.Cmp.Lexicographic.{slice_cmp, nat_list_cmp_total}
+use Rattle.std.specs.FinMap.{FinMap, find, get, insert, from_entries, get-from_entries, get-insert, same_map, slice_cmp-IsAntisymmetric, nat_cmp-IsAntisymmetric, from_entries_push}
+use Rattle.std.proofs.lemmas.Map.Text.{is_eq-slice_cmp}
+use Rattle.std.proofs.lemmas.Slice.Eq.{bytes_eq-Decides}
+use Rattle.std.proofs.lemmas.Bool.{false_from_ne_true, cond-false, cond-true}
+use Rattle.std.proofs.lemmas.List.{map-append, length-set}
+use Rattle.link_base.specs.Shelf.{Files}
+use Rattle.link_base.specs.MemShelf.{entry_of, held_of, name_at, IsPlace, IsFirstNamed, KeepsNames}
+use Rattle.link_base.specs.declared.mem_shelf.File.{File}
+
+-- two names tie in byte order exactly where they are one
+ties : (p q : List ℕ) → p ≡ q → is_eq (slice_cmp nat_cmp p q) ≡ true
+ties p q same = is_eq-slice_cmp p q ∙ (bytes_eq-Decides p q).1 same
+
+differs : (p q : List ℕ) → p ≢ q → is_eq (slice_cmp nat_cmp p q) ≡ false
+differs p q other = is_eq-slice_cmp p q ∙ false_from_ne_true (bytes_eq p q) (λ h. other ((bytes_eq-Decides p q).0 h))
+
+same_name : (p q : List ℕ) → is_eq (slice_cmp nat_cmp p q) ≡ true → p ≡ q
+same_name p q h = (bytes_eq-Decides p q).0 (sym (is_eq-slice_cmp p q) ∙ h)
+
+-- none of the first n files has this name
+abbrev pub NoneNamed : List ℕ → List File → ℕ → Type 0
+NoneNamed name files n = (k : ℕ) (d : File) → k < n → string_bytes (get_or files k d).name ≢ name
+
+pub first_from : (name : List ℕ) (files : List File) (i : ℕ) (d : File) → NoneNamed name files i → i < length files → string_bytes (get_or files i d).name ≡ name → IsFirstNamed name files i
+first_from name [] i d none within same = absurd (omega arith)
+first_from name (file ∷ files) zero d none within same = same
+first_from name (file ∷ files) (suc i) d none within same = (none 0 d (omega arith), first_from name files i d (λ k e below. none (suc k) e (omega arith)) (omega arith) same)
+
+none_found : (name : List ℕ) (files : List File) (d : File) → NoneNamed name files (length files) → find (slice_cmp nat_cmp) name (map entry_of files) ≡ None
+none_found name [] d none = refl
+none_found name (file ∷ files) d none =
+    cond-false (is_eq (slice_cmp nat_cmp name (string_bytes file.name))) _ _ (differs name (string_bytes file.name) (λ same. none 0 d (omega arith) (sym same)))
+      ∙ none_found name files d (λ k e below. none (suc k) e (omega arith))
+
+pub get_none : (name : List ℕ) (files : List File) → NoneNamed name files (length files) → get (held_of files) name ≡ None
+get_none name [] none = get-from_entries nat_list_cmp_total [] name
+get_none name (file ∷ files) none = get-from_entries nat_list_cmp_total (map entry_of (file ∷ files)) name ∙ none_found name (file ∷ files) file none
+
+-- what the first file of a name holds is what the map has at that name
+found_first : (name : List ℕ) (files : List File) (i : ℕ) → IsFirstNamed name files i → find (slice_cmp nat_cmp) name (map entry_of files) ≡ option_map (λ file. file.octets.items) (slice_get files i)
+found_first name [] i h = absurd h
+found_first name (file ∷ files) zero h = cond-true (is_eq (slice_cmp nat_cmp name (string_bytes file.name))) _ _ (ties name (string_bytes file.name) (sym h))
+found_first name (file ∷ files) (suc i) h =
+    cond-false (is_eq (slice_cmp nat_cmp name (string_bytes file.name))) _ _ (differs name (string_bytes file.name) (λ same. h.0 (sym same)))
+    ∙ found_first name files i h.1
+
+pub get_first : (name : List ℕ) (files : List File) (i : ℕ) → IsFirstNamed name files i → get (held_of files) name ≡ option_map (λ file. file.octets.items) (slice_get files i)
+get_first name files i h = get-from_entries nat_list_cmp_total (map entry_of files) name ∙ found_first name files i h
+
+pub first_name : (name : List ℕ) (files : List File) (i : ℕ) → IsFirstNamed name files i → option_map (λ file. string_bytes file.name) (slice_get files i) ≡ Some name
+first_name name [] i h = absurd h
+first_name name (file ∷ files) zero h = ap Some h
+first_name name (file ∷ files) (suc i) h = first_name name files i h.1
+
+pub first_within : (name : List ℕ) (files : List File) (i : ℕ) → IsFirstNamed name files i → i < length files
+first_within name [] i h = absurd h
+first_within name (file ∷ files) zero h = omega arith
+first_within name (file ∷ files) (suc i) h = omega (arith, first_within name files i h.1)
+
+-- two tests that can't both hold may be made in either order
+in_either_order : {X : Type 0} (a b : Bool) (x y z : X) → (a ≡ true → b ≡ true → ⊥) → cond a x (cond b y z) ≡ cond b y (cond a x z)
+in_either_order true true x y z h = absurd (h refl refl)
+in_either_order true false x y z h = refl
+in_either_order false true x y z h = refl
+in_either_order false false x y z h = refl
+
+asked_twice : {X : Type 0} (b : Bool) (x y z : X) → cond b x z ≡ cond b x (cond b y z)
+asked_twice true x y z = refl
+asked_twice false x y z = refl
+
+-- the first file of a name is replaced by another of this name
+find_replaced : (name : List ℕ) (files : List File) (i : ℕ) (file : File) (q : List ℕ) → IsFirstNamed name files i → string_bytes file.name ≡ name
+    → find (slice_cmp nat_cmp) q (map entry_of (slice_set files i file)) ≡ cond (is_eq (slice_cmp nat_cmp q name)) (Some file.octets.items) (find (slice_cmp nat_cmp) q (map entry_of files))
+find_replaced name [] i file q h new = absurd h
+find_replaced name (first ∷ files) zero file q h new =
+    rw (new, h) (asked_twice (is_eq (slice_cmp nat_cmp q name)) (Some file.octets.items) (Some first.octets.items) (find (slice_cmp nat_cmp) q (map entry_of files)))
+find_replaced name (first ∷ files) (suc i) file q h new =
+    ap (cond (is_eq (slice_cmp nat_cmp q (string_bytes first.name))) (Some first.octets.items)) (find_replaced name files i file q h.1 new)
+    ∙ in_either_order (is_eq (slice_cmp nat_cmp q (string_bytes first.name))) (is_eq (slice_cmp nat_cmp q name)) _ _ _
+    (λ one two. h.0 (sym (same_name q (string_bytes first.name) one) ∙ same_name q name two))
+
+pub held_replaced : (name : List ℕ) (files : List File) (i : ℕ) (file : File) → IsFirstNamed name files i → string_bytes file.name ≡ name
+    → held_of (slice_set files i file) ≡ insert (held_of files) name file.octets.items
+held_replaced name files i file h new = same_map nat_list_cmp_total (slice_cmp-IsAntisymmetric nat_cmp-IsAntisymmetric) _ _ (λ q.
+    get-from_entries nat_list_cmp_total (map entry_of (slice_set files i file)) q
+    ∙ find_replaced name files i file q h new
+    ∙ sym (get-insert nat_list_cmp_total (held_of files) name file.octets.items q
+    ∙ ap (cond (is_eq (slice_cmp nat_cmp q name)) (Some file.octets.items)) (get-from_entries nat_list_cmp_total (map entry_of files) q)))
+
+pub held_pushed : (name : List ℕ) (files : List File) (file : File) → get (held_of files) name ≡ None → string_bytes file.name ≡ name
+    → held_of (files ++ file ∷ []) ≡ insert (held_of files) name file.octets.items
+held_pushed name files file none new =
+    ap from_entries (map-append entry_of files (file ∷ []))
+    ∙ ap (λ n. from_entries (map entry_of files ++ (n, file.octets.items) ∷ [])) new
+    ∙ from_entries_push nat_list_cmp_total (slice_cmp-IsAntisymmetric nat_cmp-IsAntisymmetric) (map entry_of files) name file.octets.items (sym (get-from_entries nat_list_cmp_total (map entry_of files) name) ∙ none)
+
+-- the name of the first file of a name
+pub first_name_or : (name : List ℕ) (files : List File) (i : ℕ) (d : File) → IsFirstNamed name files i → string_bytes (get_or files i d).name ≡ name
+first_name_or name [] i d h = absurd h
+first_name_or name (file ∷ files) zero d h = h
+first_name_or name (file ∷ files) (suc i) d h = first_name_or name files i d h.1
+
+pub name_of_first : (name : List ℕ) (files : List File) (i : ℕ) (file : File) → IsFirstNamed name files i → file ≡ get_or files i file → string_bytes file.name ≡ name
+name_of_first name files i file found is = ap (λ (f : File). string_bytes f.name) is ∙ first_name_or name files i file found
+
+-- a file is replaced by another of its name
+replaced_name : (files : List File) (i j : ℕ) (file : File) → string_bytes (get_or files i file).name ≡ string_bytes file.name
+  → option_map (λ f. string_bytes f.name) (slice_get (slice_set files i file) j) ≡ option_map (λ f. string_bytes f.name) (slice_get files j)
+replaced_name [] i j file h = refl
+replaced_name (f ∷ files) zero zero file h = ap Some (sym h)
+replaced_name (f ∷ files) zero (suc j) file h = refl
+replaced_name (f ∷ files) (suc i) zero file h = refl
+replaced_name (f ∷ files) (suc i) (suc j) file h = replaced_name files i j file h
+
+pushed_name : (files : List File) (j : ℕ) (file : File) → j < length files → option_map (λ f. string_bytes f.name) (slice_get (files ++ file ∷ []) j) ≡ option_map (λ f. string_bytes f.name) (slice_get files j)
+pushed_name [] j file h = absurd (omega arith)
+pushed_name (f ∷ files) zero file h = refl
+pushed_name (f ∷ files) (suc j) file h = pushed_name files j file (omega arith)
+
+two_maps : (o : Option File) → option_map (λ entry. entry.0) (option_map entry_of o) ≡ option_map (λ f. string_bytes f.name) o
+two_maps None = refl
+two_maps (Some f) = refl
+
+pub keeps_replaced : (name : List ℕ) (files : List File) (i : ℕ) (file : File) → IsFirstNamed name files i → string_bytes file.name ≡ name → KeepsNames files (slice_set files i file)
+keeps_replaced name files i file found new = record {
+  longer = omega (arith, length-set {A = File});
+  names = λ place in_old. elim place as (λ p. name_at (slice_set files i file) p ≡ name_at files p) [
+    | None ↦ refl
+    | Some j ↦ two_maps (slice_get (slice_set files i file) j) ∙ replaced_name files i j file (first_name_or name files i file found ∙ sym new) ∙ sym (two_maps (slice_get files j))
+  ];
+}
+
+pub keeps_pushed : (files : List File) (file : File) → KeepsNames files (files ++ file ∷ [])
+keeps_pushed files file = record {
+  longer = omega (arith, length-append files (file ∷ []));
+  names = λ place in_old. elim place as (λ p. IsPlace files p → name_at (files ++ file ∷ []) p ≡ name_at files p) [
+    | None ↦ λ h. refl
+    | Some j ↦ λ h. two_maps (slice_get (files ++ file ∷ []) j) ∙ pushed_name files j file h ∙ sym (two_maps (slice_get files j))
+  ] in_old;
+}
+
+pub name_is : (name : List ℕ) (file found : File) → file ≡ found → string_bytes file.name ≡ name → string_bytes found.name ≡ name
+name_is name file found is same = ap (λ (f : File). string_bytes f.name) (sym is) ∙ same
