@@ -1,6 +1,6 @@
 -- The files of a shelf in memory, as the map from their names.
 use Rattle.std.proofs.Common.{◌≡◌, ◌≢◌, ◌+◌, ◌<◌, ◌⊎◌, ℕ, zero, suc, List, [], ◌∷◌, ◌++◌, Bool, true, false, cond, length, get_or, length-append, Option, Some, None, IfSome, IfNone, arith, refl, sym, ◌∙◌, ap, subst, add-one, Ordering}
-use Rattle.std.specs.Prelude.{map, slice_get, slice_set, string_bytes, MatchOption, position}
+use Rattle.std.specs.Prelude.{Contains, IsSomeAnd, ◌≤◌, map, drop, is_some, unwrap_or, slice_get, slice_set, string_bytes, MatchOption, position}
 use Rattle.std.specs.List.{position_from}
 use Rattle.std.specs.Option.{option_map}
 use Rattle.std.specs.Ordering.{nat_cmp, is_eq}
@@ -12,7 +12,7 @@ use Rattle.std.proofs.lemmas.Slice.Eq.{bytes_eq-Decides}
 use Rattle.std.proofs.lemmas.Bool.{false_from_ne_true, cond-false, cond-true}
 use Rattle.std.proofs.lemmas.List.{map-append, length-set}
 use Rattle.link_base.specs.Shelf.{Files}
-use Rattle.link_base.specs.MemShelf.{entry_of, held_of, name_at, IsPlace, IsFirstNamed, KeepsNames}
+use Rattle.link_base.specs.MemShelf.{ShelfMemory, HasStop, entry_of, held_of, name_at, left_at, IsPlace, IsFirstNamed, KeepsNames}
 use Rattle.link_base.specs.declared.mem_shelf.File.{File}
 
 -- two names tie in byte order exactly where they are one
@@ -38,7 +38,7 @@ none_found : (name : List ℕ) (files : List File) (d : File) → NoneNamed name
 none_found name [] d none = refl
 none_found name (file ∷ files) d none =
     cond-false (is_eq (slice_cmp nat_cmp name (string_bytes file.name))) _ _ (differs name (string_bytes file.name) (λ same. none 0 d (omega arith) (sym same)))
-      ∙ none_found name files d (λ k e below. none (suc k) e (omega arith))
+    ∙ none_found name files d (λ k e below. none (suc k) e (omega arith))
 
 pub get_none : (name : List ℕ) (files : List File) → NoneNamed name files (length files) → get (held_of files) name ≡ None
 get_none name [] none = get-from_entries nat_list_cmp_total [] name
@@ -113,7 +113,7 @@ name_of_first name files i file found is = ap (λ (f : File). string_bytes f.nam
 
 -- a file is replaced by another of its name
 replaced_name : (files : List File) (i j : ℕ) (file : File) → string_bytes (get_or files i file).name ≡ string_bytes file.name
-  → option_map (λ f. string_bytes f.name) (slice_get (slice_set files i file) j) ≡ option_map (λ f. string_bytes f.name) (slice_get files j)
+    → option_map (λ f. string_bytes f.name) (slice_get (slice_set files i file) j) ≡ option_map (λ f. string_bytes f.name) (slice_get files j)
 replaced_name [] i j file h = refl
 replaced_name (f ∷ files) zero zero file h = ap Some (sym h)
 replaced_name (f ∷ files) zero (suc j) file h = refl
@@ -149,3 +149,44 @@ keeps_pushed files file = record {
 
 pub name_is : (name : List ℕ) (file found : File) → file ≡ found → string_bytes file.name ≡ name → string_bytes found.name ≡ name
 name_is name file found is same = ap (λ (f : File). string_bytes f.name) (sym is) ∙ same
+
+-- what a shelf shows once the first file of a name is selected
+pub name_at_first : (name : List ℕ) (files : List File) (i : ℕ) → IsFirstNamed name files i → name_at files (Some i) ≡ Some name
+name_at_first name files i found = two_maps (slice_get files i) ∙ first_name name files i found
+
+whole : (o : Option File) (some : is_some o ≡ true) → option_map (λ file. file.octets.items) o ≡ Some (drop 0 (unwrap_or (option_map (λ entry. entry.1) (option_map entry_of o)) []))
+whole None some = absurd (cc)
+whole (Some file) some = refl
+
+there : (files : List File) (i : ℕ) → i < length files → is_some (slice_get files i) ≡ true
+there [] i within = absurd (omega arith)
+there (file ∷ files) zero within = refl
+there (file ∷ files) (suc i) within = there files i (omega arith)
+
+pub left_at_first : (name : List ℕ) (files : List File) (i : ℕ) → IsFirstNamed name files i → get (held_of files) name ≡ Some (left_at files (Some i) 0)
+left_at_first name files i found = get_first name files i found ∙ whole (slice_get files i) (there files i (first_within name files i found))
+
+-- the name at the place of a file
+name_in : (files : List File) (i : ℕ) (file : File) → i < length files → option_map (λ f. string_bytes f.name) (slice_get files i) ≡ Some (string_bytes (get_or files i file).name)
+name_in [] i file within = absurd (omega arith)
+name_in (f ∷ files) zero file within = refl
+name_in (f ∷ files) (suc i) file within = name_in files i file (omega arith)
+
+pub name_at_place : (files : List File) (i : ℕ) (file : File) → i < length files → file ≡ get_or files i file → name_at files (Some i) ≡ Some (string_bytes file.name)
+name_at_place files i file within is = two_maps (slice_get files i) ∙ name_in files i file within ∙ ap (λ (f : File). Some (string_bytes f.name)) (sym is)
+
+-- what is known of reads of the selected file by its name
+pub passes_by_name : (view now : ShelfMemory) (name : List ℕ) (k : ℕ) → view ≡ now → view.chosen ≡ Some name
+  → ((offset : ℕ) → view.position < offset → Contains view.stops (name, offset) → view.position + k ≤ offset)
+  → (chosen : List ℕ) (offset : ℕ) → now.chosen ≡ Some chosen → now.position < offset → HasStop now chosen offset → now.position + k ≤ offset
+passes_by_name view now name k is selected free =
+    subst (λ (s : ShelfMemory). (chosen : List ℕ) (offset : ℕ) → s.chosen ≡ Some chosen → s.position < offset → HasStop s chosen offset → s.position + k ≤ offset) is
+      (λ chosen offset of_it after stop.
+        let same : chosen ≡ name = cc in
+        free offset after (subst (λ n. Contains view.stops (n, offset)) same stop))
+
+pub stopped_by_name : (view now : ShelfMemory) (name : List ℕ) → view ≡ now → view.chosen ≡ Some name → Contains view.stops (name, view.position)
+  → IsSomeAnd now.chosen (λ chosen. HasStop now chosen now.position)
+stopped_by_name view now name is selected stop =
+    subst (λ (s : ShelfMemory). IsSomeAnd s.chosen (λ chosen. HasStop s chosen s.position)) is
+      (subst (λ o. IsSomeAnd o (λ chosen. HasStop view chosen view.position)) (sym selected) stop)

@@ -1,5 +1,5 @@
 -- What a shelf in memory keeps. This is the project's own.
-use Rattle.std.specs.Prelude.{◌≡◌, ◌≢◌, ◌<◌, ◌≤◌, ℕ, zero, suc, List, [], ◌∷◌, map, length, drop, true, Option, Some, None, Contains, string_bytes, unwrap_or, slice_get, refl}
+use Rattle.std.specs.Prelude.{◌↔◌, ◌+◌, ◌≡◌, ◌≢◌, ◌<◌, ◌≤◌, ℕ, zero, suc, List, [], ◌∷◌, map, length, take, drop, ◌++◌, true, Option, Some, None, Contains, string_bytes, unwrap_or, slice_get, refl}
 use Rattle.std.specs.Option.{option_map}
 use Rattle.std.specs.Ordering.{nat_cmp}
 use Rattle.std.specs.Cmp.Lexicographic.{slice_cmp}
@@ -86,3 +86,16 @@ abbrev pub IsFirstNamed : List ℕ → List File → ℕ → Type 0
 IsFirstNamed name [] i = ⊥
 IsFirstNamed name (file ∷ files) zero = string_bytes file.name ≡ name
 IsFirstNamed name (file ∷ files) (suc i) = (string_bytes file.name ≢ name) × IsFirstNamed name files i
+
+-- So many octets can be read from the position on: none at a stop, and no further than the next stop.
+pub record IsFreeRun (stops : List (List ℕ × ℕ)) (name : List ℕ) (position free : ℕ) : Type 0 where
+  pub stopped : (free ≡ 0) ↔ Contains stops (name, position)
+  pub passes_none : (offset : ℕ) → position < offset → Contains stops (name, offset) → position + free ≤ offset
+
+-- The first k of these octets, and at most so many, stand at the front of the buffer; none where there is none or no room.
+pub record ReadsFront (k most : ℕ) (octets before after : List ℕ) : Type 0 where
+  pub within : k ≤ length octets
+  pub fits : k ≤ length before
+  pub at_most : k ≤ most
+  pub some : 0 < length before → k ≡ 0 → octets ≡ []
+  pub buffer : after ≡ take k octets ++ drop k before

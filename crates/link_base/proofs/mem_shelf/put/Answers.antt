@@ -16,7 +16,7 @@ returns-in-Some-clause-ok c =
     let found = rw c.deref.ensures.value at c.in-Some.ensures.found in
     let named = name_of_first name files c.in-Some.place c.index_mut.result.now found c.index_mut.ensures.value in
     held_replaced name files c.in-Some.place (record { name = c.index_mut.result.now.name; octets = c.in_ok-octets.octets }) found named
-      ∙ ap (insert (held_of files) name) c.in_ok-octets.ensures.items
+    ∙ ap (insert (held_of files) name) c.in_ok-octets.ensures.items
 
 pub returns-in-Some-clause-names : goal.returns-in-Some-clause-names
 returns-in-Some-clause-names c =
@@ -30,8 +30,8 @@ pub returns-in_ok-push-in-None-clause-ok : goal.returns-in_ok-push-in-None-claus
 returns-in_ok-push-in-None-clause-ok c =
     let none = rw c.deref.ensures.value at c.in-None.ensures.none in
     ap held_of c.in_ok-push-in-None.ensures.items
-      ∙ held_pushed c.args.name.now c.args.files.now.items _ none c.in_ok-from_str-in-None.ensures.ok
-      ∙ ap (insert (held_of c.args.files.now.items) c.args.name.now) c.in_ok-octets.ensures.items
+    ∙ held_pushed c.args.name.now c.args.files.now.items _ none c.in_ok-from_str-in-None.ensures.ok
+    ∙ ap (insert (held_of c.args.files.now.items) c.args.name.now) c.in_ok-octets.ensures.items
 
 pub returns-in_ok-push-in-None-clause-names : goal.returns-in_ok-push-in-None-clause-names
 returns-in_ok-push-in-None-clause-names c =
