@@ -177,16 +177,16 @@ name_at_place files i file within is = two_maps (slice_get files i) ∙ name_in 
 
 -- what is known of reads of the selected file by its name
 pub passes_by_name : (view now : ShelfMemory) (name : List ℕ) (k : ℕ) → view ≡ now → view.chosen ≡ Some name
-  → ((offset : ℕ) → view.position < offset → Contains view.stops (name, offset) → view.position + k ≤ offset)
-  → (chosen : List ℕ) (offset : ℕ) → now.chosen ≡ Some chosen → now.position < offset → HasStop now chosen offset → now.position + k ≤ offset
+    → ((offset : ℕ) → view.position < offset → Contains view.stops (name, offset) → view.position + k ≤ offset)
+    → (chosen : List ℕ) (offset : ℕ) → now.chosen ≡ Some chosen → now.position < offset → HasStop now chosen offset → now.position + k ≤ offset
 passes_by_name view now name k is selected free =
     subst (λ (s : ShelfMemory). (chosen : List ℕ) (offset : ℕ) → s.chosen ≡ Some chosen → s.position < offset → HasStop s chosen offset → s.position + k ≤ offset) is
-      (λ chosen offset of_it after stop.
-        let same : chosen ≡ name = cc in
-        free offset after (subst (λ n. Contains view.stops (n, offset)) same stop))
+    (λ chosen offset of_it after stop.
+    let same : chosen ≡ name = cc in
+    free offset after (subst (λ n. Contains view.stops (n, offset)) same stop))
 
 pub stopped_by_name : (view now : ShelfMemory) (name : List ℕ) → view ≡ now → view.chosen ≡ Some name → Contains view.stops (name, view.position)
-  → IsSomeAnd now.chosen (λ chosen. HasStop now chosen now.position)
+    → IsSomeAnd now.chosen (λ chosen. HasStop now chosen now.position)
 stopped_by_name view now name is selected stop =
     subst (λ (s : ShelfMemory). IsSomeAnd s.chosen (λ chosen. HasStop s chosen s.position)) is
-      (subst (λ o. IsSomeAnd o (λ chosen. HasStop view chosen view.position)) (sym selected) stop)
+    (subst (λ o. IsSomeAnd o (λ chosen. HasStop view chosen view.position)) (sym selected) stop)
