@@ -1,0 +1,197 @@
+-- The table of what symbols spell is held against the published code, by computing: each entry at its symbol, and each
+-- character's symbol at its entry.
+use Rattle.std.proofs.Common.{add-zero, zero-add, length, ◌≡◌, ℕ, zero, suc, ◌+◌, ◌<◌, Bool, true, false, not, ◌&&◌, ◌||◌, ◌==◌, nat_lt, get_or, List, [], ◌∷◌, Some, None, inl, inr, refl, arith}
+use Rattle.std.proofs.lemmas.Bool.{and_parts, or_cases, eqb-true, ltb-true, ne_eqb}
+use Rattle.std.proofs.lemmas.Option.{some_pair_parts}
+use Rattle.line_code.specs.declared.characters.Char.{Char}
+use Rattle.line_code.specs.declared.characters.Char.TheVariants.{Octet, Comma}
+use Rattle.line_code.specs.declared.characters.Rd.{Rd}
+use Rattle.line_code.specs.declared.characters.Rd.TheVariants.{Minus, Plus}
+use Rattle.line_code.specs.declared.tables.TheConstants.{SPELLED}
+use Rattle.line_code.specs.Code.{six_bits_at_minus, four_bits_table, alternate_bits, alternate_for, ones_in, complement, disparity_past, six_bits, four_bits, spelling, disparity_after, number_of, symbol_of, IsCharacter, Spells, IsCheckOf}
+use Rattle.line_code.specs.Tables.{entry_disparity, entry_character, is_spelled_at}
+use Rattle.line_code.proofs.EncodeTable.{holds_of_octets, at_octet, same_disparity, same_disparity-true, spelled_once}
+
+-- whether a character is the comma or an octet
+is_character : Char → Bool
+is_character (Octet octet) = nat_lt octet 256
+is_character Comma = true
+
+is_character-true : (ch : Char) → is_character ch ≡ true → IsCharacter ch
+unfolding is_character
+is_character-true (Octet octet) h = ltb-true octet 256 h
+is_character-true Comma h = tt
+
+-- whether two characters are the same
+same_character : Char → Char → Bool
+same_character (Octet a) (Octet b) = a == b
+same_character Comma Comma = true
+same_character (Octet a) Comma = false
+same_character Comma (Octet b) = false
+
+same_character-true : (a b : Char) → same_character a b ≡ true → a ≡ b
+unfolding same_character
+same_character-true (Octet a) (Octet b) h = rw (eqb-true a b h) refl
+same_character-true Comma Comma h = refl
+same_character-true (Octet a) Comma h = cc
+same_character-true Comma (Octet b) h = cc
+
+-- ---- each entry at its symbol
+
+-- whether an entry is right about its symbol at a disparity
+is_right_at : Rd → ℕ → ℕ → Bool
+is_right_at rd bits entry =
+    not (is_spelled_at rd entry)
+    || is_character (entry_character entry) && bits == symbol_of rd (entry_character entry)
+    && same_disparity (entry_disparity rd entry) (disparity_after rd (entry_character entry))
+
+-- and at both, where an entry that is not 0 spells at one of them
+is_right : ℕ → ℕ → Bool
+is_right bits entry =
+    is_right_at Minus bits entry && is_right_at Plus bits entry
+    && (entry == 0 || is_spelled_at Minus entry || is_spelled_at Plus entry)
+
+-- whether the entries from one symbol on are right
+are_right_from : ℕ → List ℕ → Bool
+are_right_from bits [] = true
+are_right_from bits (entry ∷ entries) = is_right bits entry && are_right_from (suc bits) entries
+
+table_is_right : are_right_from 0 SPELLED ≡ true
+unfolding are_right_from is_right is_right_at is_character is_spelled_at entry_disparity entry_character six_bits_at_minus four_bits_table alternate_bits alternate_for ones_in complement disparity_past six_bits four_bits spelling disparity_after number_of symbol_of
+table_is_right = refl
+
+-- ---- each character's symbol at its entry
+
+-- whether the entry of a character's symbol names the character
+is_found : List ℕ → Rd → Char → Bool
+is_found table rd ch =
+    let entry = get_or table (symbol_of rd ch) 0 in
+    nat_lt (symbol_of rd ch) 1024 && is_spelled_at rd entry && same_character (entry_character entry) ch
+
+octets_are_found : (rd : Rd) → holds_of_octets (λ octet. is_found SPELLED rd (Octet octet)) ≡ true
+unfolding is_found is_spelled_at same_character entry_disparity entry_character six_bits_at_minus four_bits_table alternate_bits alternate_for ones_in complement disparity_past six_bits four_bits spelling disparity_after number_of symbol_of
+octets_are_found Minus = refl
+octets_are_found Plus = refl
+
+commas_are_found : (rd : Rd) → is_found SPELLED rd Comma ≡ true
+unfolding is_found is_spelled_at same_character entry_character spelling number_of symbol_of
+commas_are_found Minus = refl
+commas_are_found Plus = refl
+
+found_if_character : (rd : Rd) (ch : Char) → IsCharacter ch → is_found SPELLED rd ch ≡ true
+found_if_character rd (Octet octet) small =
+    at_octet (λ k. is_found SPELLED rd (Octet k)) (octets_are_found rd) octet small
+found_if_character rd Comma h = commas_are_found rd
+
+-- ---- what the tests show
+
+right_along : (n : ℕ) (entries : List ℕ) → are_right_from n entries ≡ true → (k : ℕ) → k < length entries
+    → is_right (n + k) (get_or entries k 0) ≡ true
+unfolding are_right_from
+right_along n [] h k lt = absurd (omega arith)
+right_along n (entry ∷ entries) h zero lt =
+    rw add-zero (and_parts (is_right n entry) (are_right_from (suc n) entries) h).0
+right_along n (entry ∷ entries) h (suc k) lt =
+    let rest = right_along (suc n) entries (and_parts (is_right n entry) (are_right_from (suc n) entries) h).1 k (omega arith) in
+    let same : n + suc k ≡ suc n + k = omega arith in
+    rw same rest
+
+right_at : (bits : ℕ) → bits < 1024 → is_right bits (get_or SPELLED bits 0) ≡ true
+right_at bits small = let right = right_along 0 SPELLED table_is_right bits small in rw zero-add at right
+
+-- what a test of one entry shows
+spells_if_right : (rd : Rd) (bits entry : ℕ) → is_right_at rd bits entry ≡ true → is_spelled_at rd entry ≡ true
+    → Spells rd (entry_character entry) bits (entry_disparity rd entry)
+unfolding is_right_at
+spells_if_right rd bits entry h spelled =
+    let right = rw spelled at h in
+    let parts = and_parts (is_character (entry_character entry) && bits == symbol_of rd (entry_character entry)) _ right in
+    let fronts = and_parts (is_character (entry_character entry)) _ parts.0 in
+    record {
+      character = is_character-true _ fronts.0;
+      symbol = eqb-true _ _ fronts.1;
+      disparity = same_disparity-true _ _ parts.1;
+    }
+
+right_at_each : (rd : Rd) (bits entry : ℕ) → is_right bits entry ≡ true → is_right_at rd bits entry ≡ true
+unfolding is_right
+right_at_each Minus bits entry h =
+    (and_parts (is_right_at Minus bits entry) _ (and_parts (is_right_at Minus bits entry && is_right_at Plus bits entry) _ h).0).0
+right_at_each Plus bits entry h =
+    (and_parts (is_right_at Minus bits entry) _ (and_parts (is_right_at Minus bits entry && is_right_at Plus bits entry) _ h).0).1
+
+-- an entry spells its character at its symbol
+pub Spells-entry : (rd : Rd) (bits : ℕ) → bits < 1024 → is_spelled_at rd (get_or SPELLED bits 0) ≡ true
+    → Spells rd (entry_character (get_or SPELLED bits 0)) bits (entry_disparity rd (get_or SPELLED bits 0))
+Spells-entry rd bits small spelled =
+    spells_if_right rd bits (get_or SPELLED bits 0) (right_at_each rd bits (get_or SPELLED bits 0) (right_at bits small)) spelled
+
+-- what a test of one character shows
+found_by_test : (table : List ℕ) (rd : Rd) (ch : Char) → is_found table rd ch ≡ true
+    → (symbol_of rd ch < 1024) × (is_spelled_at rd (get_or table (symbol_of rd ch) 0) ≡ true)
+    × (entry_character (get_or table (symbol_of rd ch) 0) ≡ ch)
+unfolding is_found
+found_by_test table rd ch h =
+    let entry = get_or table (symbol_of rd ch) 0 in
+    let parts = and_parts (nat_lt (symbol_of rd ch) 1024 && is_spelled_at rd entry) _ h in
+    let fronts = and_parts (nat_lt (symbol_of rd ch) 1024) _ parts.0 in
+    (ltb-true (symbol_of rd ch) 1024 fronts.0, fronts.1, same_character-true _ _ parts.1)
+
+-- the entry of a spelled symbol names its character
+pub entry_of_spelled : (rd : Rd) (ch : Char) (bits : ℕ) (next : Rd) → Spells rd ch bits next
+    → (bits < 1024) × (is_spelled_at rd (get_or SPELLED bits 0) ≡ true) × (entry_character (get_or SPELLED bits 0) ≡ ch)
+entry_of_spelled rd ch bits next s = rw s.symbol (found_by_test SPELLED rd ch (found_if_character rd ch s.character))
+
+-- ---- what the calls answer
+
+-- a fact about one character holds of an equal one
+pub along : (rd : Rd) (bits : ℕ) (a b : Char) (next : Rd) → a ≡ b → Spells rd a bits next → Spells rd b bits next
+along rd bits a b next e s = rw (← e) s
+
+pub IsCheckOf-entry : (rd : Rd) (bits : ℕ) → bits < 1024 → is_spelled_at rd (get_or SPELLED bits 0) ≡ true
+    → IsCheckOf rd bits (Some (entry_character (get_or SPELLED bits 0), entry_disparity rd (get_or SPELLED bits 0)))
+IsCheckOf-entry rd bits small spelled ch next =
+    let here = Spells-entry rd bits small spelled in (
+      λ h. let same = some_pair_parts _ _ _ _ h in rw (← same.0, ← same.1) here,
+      λ s. let same = (entry_of_spelled rd ch bits next s).2 in
+          let next_same = (spelled_once rd ch bits bits _ next (along rd bits _ ch _ same here) s).1 in
+          cc,
+    )
+
+-- where a symbol spells nothing at a disparity
+pub not_spelled : (rd : Rd) (bits : ℕ) → is_spelled_at rd (get_or SPELLED bits 0) ≡ false
+    → (ch : Char) (next : Rd) → ¬ (Spells rd ch bits next)
+not_spelled rd bits h ch next s = let found = (entry_of_spelled rd ch bits next s).1 in cc
+
+pub IsCheckOf-none : (rd : Rd) (bits : ℕ) → ((ch : Char) (next : Rd) → ¬ (Spells rd ch bits next)) → IsCheckOf rd bits None
+IsCheckOf-none rd bits h ch next = (λ e. cc, λ s. absurd (h ch next s))
+
+-- ---- at either disparity
+
+zero_spells_nothing : (rd : Rd) (entry : ℕ) → entry ≡ 0 → is_spelled_at rd entry ≡ false
+unfolding is_spelled_at
+zero_spells_nothing Minus entry e = rw e refl
+zero_spells_nothing Plus entry e = rw e refl
+
+-- an entry that is 0 spells its symbol at neither disparity
+pub not_spelled_at_zero : (bits : ℕ) → get_or SPELLED bits 0 ≡ 0
+    → (rd : Rd) (ch : Char) (next : Rd) → ¬ (Spells rd ch bits next)
+not_spelled_at_zero bits zero_entry rd =
+    not_spelled rd bits (zero_spells_nothing rd (get_or SPELLED bits 0) zero_entry)
+
+some_disparity : (bits entry : ℕ) → is_right bits entry ≡ true → (entry == 0) ≡ false → (rd : Rd) × (is_spelled_at rd entry ≡ true)
+unfolding is_right
+some_disparity bits entry h other =
+    let last = (and_parts (is_right_at Minus bits entry && is_right_at Plus bits entry) _ h).1 in
+    let either = rw other at last in
+    elim (or_cases (is_spelled_at Minus entry) (is_spelled_at Plus entry) either) [
+      | inl minus ↦ (Minus, minus)
+      | inr plus ↦ (Plus, plus)
+    ]
+
+-- and any other spells it at one
+pub spelled_at_some : (bits : ℕ) → bits < 1024 → ¬ (get_or SPELLED bits 0 ≡ 0)
+    → (rd : Rd) × (next : Rd) × Spells rd (entry_character (get_or SPELLED bits 0)) bits next
+spelled_at_some bits small other =
+    let found = some_disparity bits (get_or SPELLED bits 0) (right_at bits small) (ne_eqb _ _ other) in
+    (found.0, _, Spells-entry found.0 bits small found.1)

@@ -1,0 +1,85 @@
+-- The tables of symbols are held against the published code at each octet, by computing.
+use Rattle.std.proofs.Common.{◌≡◌, ℕ, ◌<◌, Bool, true, false, ◌&&◌, ◌==◌, bit_and, get_or, List, refl, sym, ◌∙◌}
+use Rattle.std.proofs.lemmas.Bool.{and_parts, agree_below, agree_below_at, eqb-true}
+use Rattle.line_code.specs.declared.characters.Char.TheVariants.{Octet, Comma}
+use Rattle.line_code.specs.declared.characters.Char.{Char}
+use Rattle.line_code.specs.declared.characters.Rd.{Rd}
+use Rattle.line_code.specs.declared.characters.Rd.TheVariants.{Minus, Plus}
+use Rattle.line_code.specs.declared.tables.TheConstants.{COMMA_AT_MINUS, COMMA_AT_PLUS, SYMBOL_BITS, SYMBOLS_AT_MINUS, SYMBOLS_AT_PLUS}
+use Rattle.line_code.specs.Code.{six_bits_at_minus, four_bits_table, alternate_bits, alternate_for, ones_in, complement, disparity_past, six_bits, four_bits, spelling, disparity_after, number_of, symbol_of, Spells}
+use Rattle.line_code.specs.Tables.{entry_disparity}
+
+-- whether two disparities are the same
+abbrev pub same_disparity : Rd → Rd → Bool
+same_disparity Minus Minus = true
+same_disparity Plus Plus = true
+same_disparity Minus Plus = false
+same_disparity Plus Minus = false
+
+pub same_disparity-true : (a b : Rd) → same_disparity a b ≡ true → a ≡ b
+same_disparity-true Minus Minus h = refl
+same_disparity-true Plus Plus h = refl
+same_disparity-true Minus Plus h = cc
+same_disparity-true Plus Minus h = cc
+
+-- whether a test holds of each octet
+abbrev pub holds_of_octets : (ℕ → Bool) → Bool
+holds_of_octets test = agree_below test (λ octet. true) 256
+
+pub at_octet : (test : ℕ → Bool) → holds_of_octets test ≡ true → (octet : ℕ) → octet < 256 → test octet ≡ true
+at_octet test h octet small = agree_below_at test (λ k. true) 256 octet h small
+
+-- whether an entry is that of an octet at a disparity
+is_symbol_entry : Rd → ℕ → ℕ → Bool
+is_symbol_entry rd octet entry =
+    bit_and entry SYMBOL_BITS == symbol_of rd (Octet octet)
+    && same_disparity (entry_disparity rd entry) (disparity_after rd (Octet octet))
+
+is_symbol_entry-true : (rd : Rd) (octet entry : ℕ) → octet < 256 → is_symbol_entry rd octet entry ≡ true
+    → Spells rd (Octet octet) (bit_and entry SYMBOL_BITS) (entry_disparity rd entry)
+unfolding is_symbol_entry
+is_symbol_entry-true rd octet entry small h =
+    let parts = and_parts (bit_and entry SYMBOL_BITS == symbol_of rd (Octet octet)) _ h in
+    record {
+      character = small;
+      symbol = eqb-true _ _ parts.0;
+      disparity = same_disparity-true _ _ parts.1;
+    }
+
+-- a table whose 256 entries pass
+from_table : (rd : Rd) (table : List ℕ) → holds_of_octets (λ octet. is_symbol_entry rd octet (get_or table octet 0)) ≡ true
+    → (octet : ℕ) → octet < 256
+    → Spells rd (Octet octet) (bit_and (get_or table octet 0) SYMBOL_BITS) (entry_disparity rd (get_or table octet 0))
+from_table rd table h octet small =
+    is_symbol_entry-true rd octet (get_or table octet 0) small
+    (at_octet (λ k. is_symbol_entry rd k (get_or table k 0)) h octet small)
+
+minus_passes : holds_of_octets (λ octet. is_symbol_entry Minus octet (get_or SYMBOLS_AT_MINUS octet 0)) ≡ true
+unfolding is_symbol_entry six_bits_at_minus four_bits_table alternate_bits alternate_for ones_in complement disparity_past six_bits four_bits spelling disparity_after number_of symbol_of entry_disparity
+minus_passes = refl
+
+plus_passes : holds_of_octets (λ octet. is_symbol_entry Plus octet (get_or SYMBOLS_AT_PLUS octet 0)) ≡ true
+unfolding is_symbol_entry six_bits_at_minus four_bits_table alternate_bits alternate_for ones_in complement disparity_past six_bits four_bits spelling disparity_after number_of symbol_of entry_disparity
+plus_passes = refl
+
+pub Spells-minus : (octet : ℕ) → octet < 256
+    → Spells Minus (Octet octet) (bit_and (get_or SYMBOLS_AT_MINUS octet 0) SYMBOL_BITS) (entry_disparity Minus (get_or SYMBOLS_AT_MINUS octet 0))
+Spells-minus = from_table Minus SYMBOLS_AT_MINUS minus_passes
+
+pub Spells-plus : (octet : ℕ) → octet < 256
+    → Spells Plus (Octet octet) (bit_and (get_or SYMBOLS_AT_PLUS octet 0) SYMBOL_BITS) (entry_disparity Plus (get_or SYMBOLS_AT_PLUS octet 0))
+Spells-plus = from_table Plus SYMBOLS_AT_PLUS plus_passes
+
+-- the entries of the comma
+pub Spells-comma_minus : Spells Minus Comma (bit_and COMMA_AT_MINUS SYMBOL_BITS) (entry_disparity Minus COMMA_AT_MINUS)
+unfolding spelling disparity_after number_of symbol_of entry_disparity
+Spells-comma_minus = record { character = tt; symbol = refl; disparity = refl }
+
+pub Spells-comma_plus : Spells Plus Comma (bit_and COMMA_AT_PLUS SYMBOL_BITS) (entry_disparity Plus COMMA_AT_PLUS)
+unfolding spelling disparity_after number_of symbol_of entry_disparity
+Spells-comma_plus = record { character = tt; symbol = refl; disparity = refl }
+
+-- a character has one symbol at a disparity, and one disparity after it
+pub spelled_once : (rd : Rd) (ch : Char) (bits bits' : ℕ) (next next' : Rd) → Spells rd ch bits next → Spells rd ch bits' next'
+    → (bits ≡ bits') × (next ≡ next')
+spelled_once rd ch bits bits' next next' s s' = (s.symbol ∙ sym s'.symbol, s.disparity ∙ sym s'.disparity)

@@ -1,0 +1,4 @@
+mod CodeLaws
+mod DecodeTable
+mod EncodeTable
+pub mod LineLaws

@@ -1,0 +1,16 @@
+//! The 8B/10B code of a CPRI line: octets and the comma as symbols of ten bits, by the running disparity.
+#![tactic(auto)]
+
+mod characters;
+mod decoder;
+mod encoder;
+mod laws;
+mod tables;
+
+pub use characters::{Char, Rd, Symbol};
+pub use decoder::{check, decode, rd_after};
+pub use encoder::encode;
+pub use laws::{
+    check_along_characters, check_along_frames, spelled_disparity_by_ones, spelled_in_ten_bits,
+    spells_one_character,
+};
