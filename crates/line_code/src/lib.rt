@@ -14,3 +14,6 @@ pub use laws::{
     check_along_characters, check_along_frames, spelled_disparity_by_ones, spelled_in_ten_bits,
     spells_one_character,
 };
+
+#[cfg(test)]
+mod tests;
