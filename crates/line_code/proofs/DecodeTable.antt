@@ -1,14 +1,16 @@
--- The table of what symbols spell is held against the published code, by computing: each entry at its symbol, and each
--- character's symbol at its entry.
-use Rattle.std.proofs.Common.{add-zero, zero-add, length, ◌≡◌, ℕ, zero, suc, ◌+◌, ◌<◌, Bool, true, false, not, ◌&&◌, ◌||◌, ◌==◌, nat_lt, get_or, List, [], ◌∷◌, Some, None, inl, inr, refl, arith}
+-- The table of what symbols spell is held against the published code, by computing: each entry at its
+-- symbol, and each character's symbol at its entry.
+use Rattle.std.proofs.Common.{◌≡◌, ℕ, zero, suc, ◌+◌, ◌<◌, add-zero, zero-add, refl, arith, inl, inr}
+use Rattle.std.proofs.Common.{Bool, true, false, not, ◌&&◌, ◌||◌, ◌==◌, nat_lt, List, [], ◌∷◌, length, get_or, Some, None}
 use Rattle.std.proofs.lemmas.Bool.{and_parts, or_cases, eqb-true, ltb-true, ne_eqb}
 use Rattle.std.proofs.lemmas.Option.{some_pair_parts}
+use Rattle.line_code.proofs.OnLiterals.{code_on_literals}
 use Rattle.line_code.specs.declared.characters.Char.{Char}
 use Rattle.line_code.specs.declared.characters.Char.TheVariants.{Octet, Comma}
 use Rattle.line_code.specs.declared.characters.Rd.{Rd}
 use Rattle.line_code.specs.declared.characters.Rd.TheVariants.{Minus, Plus}
 use Rattle.line_code.specs.declared.tables.TheConstants.{SPELLED}
-use Rattle.line_code.specs.Code.{six_bits_at_minus, four_bits_table, alternate_bits, alternate_for, ones_in, complement, disparity_past, six_bits, four_bits, spelling, disparity_after, number_of, symbol_of, IsCharacter, Spells, IsCheckOf}
+use Rattle.line_code.specs.Code.{disparity_after, symbol_of, IsCharacter, Spells, IsCheckOf}
 use Rattle.line_code.specs.Tables.{entry_disparity, entry_character, is_spelled_at}
 use Rattle.line_code.proofs.EncodeTable.{holds_of_octets, at_octet, same_disparity, same_disparity-true, spelled_once}
 
@@ -57,7 +59,7 @@ are_right_from bits [] = true
 are_right_from bits (entry ∷ entries) = is_right bits entry && are_right_from (suc bits) entries
 
 table_is_right : are_right_from 0 SPELLED ≡ true
-unfolding are_right_from is_right is_right_at is_character is_spelled_at entry_disparity entry_character six_bits_at_minus four_bits_table alternate_bits alternate_for ones_in complement disparity_past six_bits four_bits spelling disparity_after number_of symbol_of
+unfolding are_right_from is_right is_right_at is_character code_on_literals
 table_is_right = refl
 
 -- ---- each character's symbol at its entry
@@ -69,12 +71,12 @@ is_found table rd ch =
     nat_lt (symbol_of rd ch) 1024 && is_spelled_at rd entry && same_character (entry_character entry) ch
 
 octets_are_found : (rd : Rd) → holds_of_octets (λ octet. is_found SPELLED rd (Octet octet)) ≡ true
-unfolding is_found is_spelled_at same_character entry_disparity entry_character six_bits_at_minus four_bits_table alternate_bits alternate_for ones_in complement disparity_past six_bits four_bits spelling disparity_after number_of symbol_of
+unfolding is_found same_character code_on_literals
 octets_are_found Minus = refl
 octets_are_found Plus = refl
 
 commas_are_found : (rd : Rd) → is_found SPELLED rd Comma ≡ true
-unfolding is_found is_spelled_at same_character entry_character spelling number_of symbol_of
+unfolding is_found same_character code_on_literals
 commas_are_found Minus = refl
 commas_are_found Plus = refl
 
@@ -85,14 +87,15 @@ found_if_character rd Comma h = commas_are_found rd
 
 -- ---- what the tests show
 
-right_along : (n : ℕ) (entries : List ℕ) → are_right_from n entries ≡ true → (k : ℕ) → k < length entries
-    → is_right (n + k) (get_or entries k 0) ≡ true
+right_along : (n : ℕ) (entries : List ℕ) → are_right_from n entries ≡ true
+    → (k : ℕ) → k < length entries → is_right (n + k) (get_or entries k 0) ≡ true
 unfolding are_right_from
 right_along n [] h k lt = absurd (omega arith)
 right_along n (entry ∷ entries) h zero lt =
     rw add-zero (and_parts (is_right n entry) (are_right_from (suc n) entries) h).0
 right_along n (entry ∷ entries) h (suc k) lt =
-    let rest = right_along (suc n) entries (and_parts (is_right n entry) (are_right_from (suc n) entries) h).1 k (omega arith) in
+    let parts = and_parts (is_right n entry) (are_right_from (suc n) entries) h in
+    let rest = right_along (suc n) entries parts.1 k (omega arith) in
     let same : n + suc k ≡ suc n + k = omega arith in
     rw same rest
 
@@ -105,8 +108,9 @@ spells_if_right : (rd : Rd) (bits entry : ℕ) → is_right_at rd bits entry ≡
 unfolding is_right_at
 spells_if_right rd bits entry h spelled =
     let right = rw spelled at h in
-    let parts = and_parts (is_character (entry_character entry) && bits == symbol_of rd (entry_character entry)) _ right in
-    let fronts = and_parts (is_character (entry_character entry)) _ parts.0 in
+    let ch = entry_character entry in
+    let parts = and_parts (is_character ch && bits == symbol_of rd ch) _ right in
+    let fronts = and_parts (is_character ch) _ parts.0 in
     record {
       character = is_character-true _ fronts.0;
       symbol = eqb-true _ _ fronts.1;
@@ -115,16 +119,17 @@ spells_if_right rd bits entry h spelled =
 
 right_at_each : (rd : Rd) (bits entry : ℕ) → is_right bits entry ≡ true → is_right_at rd bits entry ≡ true
 unfolding is_right
-right_at_each Minus bits entry h =
-    (and_parts (is_right_at Minus bits entry) _ (and_parts (is_right_at Minus bits entry && is_right_at Plus bits entry) _ h).0).0
-right_at_each Plus bits entry h =
-    (and_parts (is_right_at Minus bits entry) _ (and_parts (is_right_at Minus bits entry && is_right_at Plus bits entry) _ h).0).1
+right_at_each rd bits entry h =
+    let both = (and_parts (is_right_at Minus bits entry && is_right_at Plus bits entry) _ h).0 in
+    let each = and_parts (is_right_at Minus bits entry) _ both in
+    elim rd as (λ r. is_right_at r bits entry ≡ true) [ Minus ↦ each.0 | Plus ↦ each.1 ]
 
 -- an entry spells its character at its symbol
 pub Spells-entry : (rd : Rd) (bits : ℕ) → bits < 1024 → is_spelled_at rd (get_or SPELLED bits 0) ≡ true
     → Spells rd (entry_character (get_or SPELLED bits 0)) bits (entry_disparity rd (get_or SPELLED bits 0))
 Spells-entry rd bits small spelled =
-    spells_if_right rd bits (get_or SPELLED bits 0) (right_at_each rd bits (get_or SPELLED bits 0) (right_at bits small)) spelled
+    let right = right_at_each rd bits (get_or SPELLED bits 0) (right_at bits small) in
+    spells_if_right rd bits (get_or SPELLED bits 0) right spelled
 
 -- what a test of one character shows
 found_by_test : (table : List ℕ) (rd : Rd) (ch : Char) → is_found table rd ch ≡ true
@@ -179,7 +184,8 @@ pub not_spelled_at_zero : (bits : ℕ) → get_or SPELLED bits 0 ≡ 0
 not_spelled_at_zero bits zero_entry rd =
     not_spelled rd bits (zero_spells_nothing rd (get_or SPELLED bits 0) zero_entry)
 
-some_disparity : (bits entry : ℕ) → is_right bits entry ≡ true → (entry == 0) ≡ false → (rd : Rd) × (is_spelled_at rd entry ≡ true)
+some_disparity : (bits entry : ℕ) → is_right bits entry ≡ true → (entry == 0) ≡ false
+    → (rd : Rd) × (is_spelled_at rd entry ≡ true)
 unfolding is_right
 some_disparity bits entry h other =
     let last = (and_parts (is_right_at Minus bits entry && is_right_at Plus bits entry) _ h).1 in

@@ -1,12 +1,13 @@
 -- The tables of symbols are held against the published code at each octet, by computing.
 use Rattle.std.proofs.Common.{◌≡◌, ℕ, ◌<◌, Bool, true, false, ◌&&◌, ◌==◌, bit_and, get_or, List, refl, sym, ◌∙◌}
 use Rattle.std.proofs.lemmas.Bool.{and_parts, agree_below, agree_below_at, eqb-true}
+use Rattle.line_code.proofs.OnLiterals.{code_on_literals}
 use Rattle.line_code.specs.declared.characters.Char.TheVariants.{Octet, Comma}
 use Rattle.line_code.specs.declared.characters.Char.{Char}
 use Rattle.line_code.specs.declared.characters.Rd.{Rd}
 use Rattle.line_code.specs.declared.characters.Rd.TheVariants.{Minus, Plus}
 use Rattle.line_code.specs.declared.tables.TheConstants.{COMMA_AT_MINUS, COMMA_AT_PLUS, SYMBOL_BITS, SYMBOLS_AT_MINUS, SYMBOLS_AT_PLUS}
-use Rattle.line_code.specs.Code.{six_bits_at_minus, four_bits_table, alternate_bits, alternate_for, ones_in, complement, disparity_past, six_bits, four_bits, spelling, disparity_after, number_of, symbol_of, Spells}
+use Rattle.line_code.specs.Code.{disparity_after, symbol_of, Spells}
 use Rattle.line_code.specs.Tables.{entry_disparity}
 
 -- whether two disparities are the same
@@ -47,7 +48,8 @@ is_symbol_entry-true rd octet entry small h =
     }
 
 -- a table whose 256 entries pass
-from_table : (rd : Rd) (table : List ℕ) → holds_of_octets (λ octet. is_symbol_entry rd octet (get_or table octet 0)) ≡ true
+from_table : (rd : Rd) (table : List ℕ)
+    → holds_of_octets (λ octet. is_symbol_entry rd octet (get_or table octet 0)) ≡ true
     → (octet : ℕ) → octet < 256
     → Spells rd (Octet octet) (bit_and (get_or table octet 0) SYMBOL_BITS) (entry_disparity rd (get_or table octet 0))
 from_table rd table h octet small =
@@ -55,31 +57,33 @@ from_table rd table h octet small =
     (at_octet (λ k. is_symbol_entry rd k (get_or table k 0)) h octet small)
 
 minus_passes : holds_of_octets (λ octet. is_symbol_entry Minus octet (get_or SYMBOLS_AT_MINUS octet 0)) ≡ true
-unfolding is_symbol_entry six_bits_at_minus four_bits_table alternate_bits alternate_for ones_in complement disparity_past six_bits four_bits spelling disparity_after number_of symbol_of entry_disparity
+unfolding is_symbol_entry code_on_literals
 minus_passes = refl
 
 plus_passes : holds_of_octets (λ octet. is_symbol_entry Plus octet (get_or SYMBOLS_AT_PLUS octet 0)) ≡ true
-unfolding is_symbol_entry six_bits_at_minus four_bits_table alternate_bits alternate_for ones_in complement disparity_past six_bits four_bits spelling disparity_after number_of symbol_of entry_disparity
+unfolding is_symbol_entry code_on_literals
 plus_passes = refl
 
 pub Spells-minus : (octet : ℕ) → octet < 256
-    → Spells Minus (Octet octet) (bit_and (get_or SYMBOLS_AT_MINUS octet 0) SYMBOL_BITS) (entry_disparity Minus (get_or SYMBOLS_AT_MINUS octet 0))
+    → Spells Minus (Octet octet) (bit_and (get_or SYMBOLS_AT_MINUS octet 0) SYMBOL_BITS)
+    (entry_disparity Minus (get_or SYMBOLS_AT_MINUS octet 0))
 Spells-minus = from_table Minus SYMBOLS_AT_MINUS minus_passes
 
 pub Spells-plus : (octet : ℕ) → octet < 256
-    → Spells Plus (Octet octet) (bit_and (get_or SYMBOLS_AT_PLUS octet 0) SYMBOL_BITS) (entry_disparity Plus (get_or SYMBOLS_AT_PLUS octet 0))
+    → Spells Plus (Octet octet) (bit_and (get_or SYMBOLS_AT_PLUS octet 0) SYMBOL_BITS)
+    (entry_disparity Plus (get_or SYMBOLS_AT_PLUS octet 0))
 Spells-plus = from_table Plus SYMBOLS_AT_PLUS plus_passes
 
 -- the entries of the comma
 pub Spells-comma_minus : Spells Minus Comma (bit_and COMMA_AT_MINUS SYMBOL_BITS) (entry_disparity Minus COMMA_AT_MINUS)
-unfolding spelling disparity_after number_of symbol_of entry_disparity
+unfolding code_on_literals
 Spells-comma_minus = record { character = tt; symbol = refl; disparity = refl }
 
 pub Spells-comma_plus : Spells Plus Comma (bit_and COMMA_AT_PLUS SYMBOL_BITS) (entry_disparity Plus COMMA_AT_PLUS)
-unfolding spelling disparity_after number_of symbol_of entry_disparity
+unfolding code_on_literals
 Spells-comma_plus = record { character = tt; symbol = refl; disparity = refl }
 
 -- a character has one symbol at a disparity, and one disparity after it
-pub spelled_once : (rd : Rd) (ch : Char) (bits bits' : ℕ) (next next' : Rd) → Spells rd ch bits next → Spells rd ch bits' next'
-    → (bits ≡ bits') × (next ≡ next')
+pub spelled_once : (rd : Rd) (ch : Char) (bits bits' : ℕ) (next next' : Rd)
+    → Spells rd ch bits next → Spells rd ch bits' next' → (bits ≡ bits') × (next ≡ next')
 spelled_once rd ch bits bits' next next' s s' = (s.symbol ∙ sym s'.symbol, s.disparity ∙ sym s'.disparity)

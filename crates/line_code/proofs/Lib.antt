@@ -2,3 +2,4 @@ mod CodeLaws
 mod DecodeTable
 mod EncodeTable
 pub mod LineLaws
+pub mod OnLiterals

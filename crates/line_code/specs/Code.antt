@@ -1,7 +1,8 @@
--- The 8B/10B transmission code of IEEE 802.3 clause 36.2.4, which the CPRI Specification V7.0 takes for the line in
--- section 4.2: which symbol spells a character at a running disparity, and the disparity after it.
--- An octet Dx.y has x = its low five bits and y = its high three bits. A symbol has the bits a b c d e i f g h j, bit a
--- first on the line. Bits are written here as texts of the digits 0 and 1, bit a first.
+-- The 8B/10B transmission code of IEEE 802.3 clause 36.2.4, which the CPRI Specification V7.0 takes for
+-- the line in section 4.2: which symbol spells a character at a running disparity, and the disparity
+-- after it. An octet Dx.y has x = its low five bits and y = its high three bits. A symbol has the bits
+-- a b c d e i f g h j, bit a first on the line. Bits are written here as texts of the digits 0 and 1, bit
+-- a first.
 use Rattle.std.specs.Prelude.{◌≡◌, ℕ, ◌+◌, ◌-◌, ◌*◌, ◌/◌, ◌%◌, ◌<◌, ◌↔◌, ⊤, not, ◌&&◌, ◌||◌, ◌==◌, nat_lt, if◌then◌else◌, List, [], ◌∷◌, ◌++◌, map, length, get_or, count_by, count_ones, codes, Option, Some}
 use Rattle.std.specs.List.{list_any}
 use Rattle.line_code.specs.declared.characters.Char.{Char}
@@ -51,16 +52,16 @@ ones_in text = count_by (λ digit. digit == 49) text
 unfoldable pub complement : List ℕ → List ℕ
 complement text = map (λ digit. 97 - digit) text
 
--- The disparity after a group of bits: positive after more ones than zeros, negative after fewer, and unchanged after
--- as many.
+-- The disparity after a group of bits: positive after more ones than zeros, negative after fewer, and
+-- unchanged after as many.
 unfoldable pub disparity_past : Rd → List ℕ → Rd
 disparity_past rd text =
     if nat_lt (length text) (2 * ones_in text)
     then Plus
     else (if nat_lt (2 * ones_in text) (length text) then Minus else rd)
 
--- The bits a b c d e i of x: at positive disparity a code with other than three ones, and the code of 7, is
--- complemented.
+-- The bits a b c d e i of x: at positive disparity a code with other than three ones, and the code of 7,
+-- is complemented.
 unfoldable pub six_bits : Rd → ℕ → List ℕ
 six_bits Minus x = get_or six_bits_at_minus x []
 six_bits Plus x =
@@ -105,18 +106,18 @@ abbrev pub IsCharacter : Char → Type 0
 IsCharacter (Octet octet) = octet < 256
 IsCharacter Comma = ⊤
 
--- at disparity rd the character ch is spelled by the symbol with these bits, and the disparity after it is next
+-- at disparity rd the character ch is spelled by the symbol of these bits, and next is the disparity after
 pub record Spells (rd : Rd) (ch : Char) (bits : ℕ) (next : Rd) : Type 0 where
   pub character : IsCharacter ch
   pub symbol : bits ≡ symbol_of rd ch
   pub disparity : next ≡ disparity_after rd ch
 
--- the answer names exactly the character that the symbol spells at disparity rd, with the disparity after it
+-- the answer names exactly the character that the symbol spells at rd, with the disparity after it
 abbrev pub IsCheckOf : Rd → ℕ → Option (Char × Rd) → Type 0
 IsCheckOf rd bits answer = (ch : Char) (next : Rd) → (answer ≡ Some (ch, next)) ↔ (Spells rd ch bits next)
 
--- The disparity that a symbol's count of ones gives: positive for more than five, negative for fewer, and unchanged for
--- five.
+-- The disparity that a symbol's count of ones gives: positive for more than five, negative for fewer, and
+-- unchanged for five.
 abbrev pub disparity_by_ones : Rd → ℕ → Rd
 disparity_by_ones rd bits =
     if nat_lt 5 (count_ones bits) then Plus else (if nat_lt (count_ones bits) 5 then Minus else rd)

@@ -1,5 +1,5 @@
--- The symbols of a run of basic frames on the line (CPRI Specification V7.0 section 4.2: the sync byte K28.5 begins a
--- hyperframe, and each other octet is a data character).
+-- The symbols of a run of basic frames on the line (CPRI Specification V7.0 section 4.2: the sync byte
+-- K28.5 begins a hyperframe, and each other octet is a data character).
 use Rattle.std.specs.Prelude.{ℕ, ◌+◌, ◌%◌, ◌<◌, ⊤, ◌==◌, if◌then◌else◌, List, [], ◌∷◌, ◌++◌, map, All, Option, Some, None}
 use Rattle.line_code.specs.declared.characters.Char.{Char}
 use Rattle.line_code.specs.declared.characters.Char.TheVariants.{Octet, Comma}
@@ -7,7 +7,8 @@ use Rattle.line_code.specs.declared.characters.Rd.{Rd}
 use Rattle.line_code.specs.declared.characters.Rd.TheVariants.{Minus}
 use Rattle.line_code.specs.Code.{symbol_of, disparity_after, disparity_by_ones, IsCheckOf}
 
--- The characters of the octets of frame n: the first is the comma where X = n mod 256 is 0, and every other is the octet.
+-- The characters of the octets of frame n: the first is the comma where X = n mod 256 is 0, and every
+-- other is the octet.
 abbrev pub frame_characters : ℕ → List ℕ → List Char
 frame_characters n [] = []
 frame_characters n (first ∷ rest) = (if n % 256 == 0 then Comma else Octet first) ∷ map Octet rest
@@ -35,8 +36,8 @@ line_symbols frames = symbols_of Minus (characters_from 0 frames)
 abbrev pub IsFrame : List ℕ → Type 0
 IsFrame frame = All (λ octet. octet < 256) frame
 
--- What `check` answers along a line of symbols: at rd for the first, and then at the disparity that the last answer
--- gave, or after None at the one that the symbol's ones give.
+-- What `check` answers along a line of symbols: at rd for the first, and then at the disparity that the
+-- last answer gave, or after None at the one that the symbol's ones give.
 abbrev pub ChecksAlong : Rd → List ℕ → List (Option Char) → Type 0
 ChecksAlong rd [] [] = ⊤
 ChecksAlong rd (bits ∷ symbols) (Some ch ∷ answers) =

@@ -1,4 +1,4 @@
--- How the entries of the code's tables are laid out. They are the code's own, and no contract of a public call names them.
+-- How the entries of this project's own tables are laid out. No contract of a public call names them.
 use Rattle.std.specs.Prelude.{ℕ, Bool, not, ◌==◌, if◌then◌else◌, bit_and}
 use Rattle.line_code.specs.declared.characters.Char.{Char}
 use Rattle.line_code.specs.declared.characters.Char.TheVariants.{Octet, Comma}

@@ -1,11 +1,13 @@
-//! What the line carries: characters, the symbols that spell them, and the running disparity between symbols.
+//! What the line carries: characters, the symbols that spell them, and the running disparity.
 
 ghost use Rattle.std.specs.Prelude.{◌<◌};
 
 /// The running disparity of IEEE 802.3 clause 36.2.4.4, before or after a symbol.
 #[derive(Clone, Copy, Debug, PartialEq, Eq, Hash)]
 pub enum Rd {
+    /// Negative, as at the start of a line.
     Minus,
+    /// Positive.
     Plus,
 }
 

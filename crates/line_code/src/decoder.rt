@@ -25,7 +25,8 @@ pub fn check(rd: Rd, sym: Symbol) -> Option<(Char, Rd)>
 /// The character that a symbol spells at either disparity.
 /// It is `None` where neither disparity spells it.
 pub fn decode(sym: Symbol) -> Option<Char>
-    ensures spelled { (ch : Char) → (result ≡ Some ch) ↔ ((rd : Rd) × (next : Rd) × Spells rd ch sym.bits next) }
+    ensures spelled { (ch : Char)
+        → (result ≡ Some ch) ↔ ((rd : Rd) × (next : Rd) × Spells rd ch sym.bits next) }
     ensures none { IsNone result ↔ ((rd : Rd) (ch : Char) (next : Rd) → ¬ (Spells rd ch sym.bits next)) }
 {
     let entry = SPELLED[sym.bits as usize];

@@ -13,7 +13,8 @@ use crate::tables::{
 /// The symbol that spells a character at the disparity `rd`, and the disparity after it.
 pub fn encode(rd: Rd, ch: Char) -> (Symbol, Rd)
     ensures spells { Spells rd ch result.0.bits result.1 }
-    ensures only { (bits : ℕ) (next : Rd) → Spells rd ch bits next → (bits ≡ result.0.bits) × (next ≡ result.1) }
+    ensures only { (bits : ℕ) (next : Rd) → Spells rd ch bits next
+        → (bits ≡ result.0.bits) × (next ≡ result.1) }
 {
     let entry = match (rd, ch) {
         (Rd::Minus, Char::Octet(octet)) => SYMBOLS_AT_MINUS[octet as usize],
@@ -21,10 +22,8 @@ pub fn encode(rd: Rd, ch: Char) -> (Symbol, Rd)
         (Rd::Minus, Char::Comma) => COMMA_AT_MINUS,
         (Rd::Plus, Char::Comma) => COMMA_AT_PLUS,
     };
-    (
-        Symbol {
-            bits: entry & SYMBOL_BITS,
-        },
-        disparity_of_entry(rd, entry),
-    )
+    let sym = Symbol {
+        bits: entry & SYMBOL_BITS,
+    };
+    (sym, disparity_of_entry(rd, entry))
 }

@@ -1,4 +1,5 @@
-//! The 8B/10B code of a CPRI line: octets and the comma as symbols of ten bits, by the running disparity.
+//! The 8B/10B code of a CPRI line (IEEE 802.3 clause 36.2.4): octets and the comma as symbols of ten
+//! bits, by the running disparity.
 #![tactic(auto)]
 
 mod characters;

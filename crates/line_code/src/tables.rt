@@ -5,13 +5,13 @@ ghost use Rattle.line_code.specs.Tables.{entry_character, entry_disparity, is_sp
 
 use crate::characters::{Char, Rd};
 
-/// Set in an entry where the symbol has other than five ones, so that the disparity after it is not the one before it.
+/// Set in an entry where the symbol has other than five ones, which turns the disparity.
 const CHANGES_DISPARITY: u16 = 0x400;
 
-/// Set in an entry of `SPELLED` where the symbol spells something at negative disparity.
+/// Set in an entry of `SPELLED` where the symbol spells its character at negative disparity.
 const AT_MINUS: u16 = 0x100;
 
-/// Set in an entry of `SPELLED` where the symbol spells something at positive disparity.
+/// Set in an entry of `SPELLED` where the symbol spells its character at positive disparity.
 const AT_PLUS: u16 = 0x200;
 
 /// Set in an entry of `SPELLED` where the symbol is the comma.
@@ -65,7 +65,7 @@ pub(crate) fn is_spelled_at(rd: Rd, entry: u16) -> bool
     entry & flag != 0
 }
 
-/// The symbol of each octet at negative disparity in the low ten bits, bit a lowest, with `CHANGES_DISPARITY`.
+/// The symbol of each octet at negative disparity, bit a lowest, with `CHANGES_DISPARITY`.
 pub(crate) static SYMBOLS_AT_MINUS: [u16; 256] = [
     0x0b9, 0x0ae, 0x0ad, 0x763, 0x0ab, 0x765, 0x766, 0x747, 0x0a7, 0x769, 0x76a, 0x74b, 0x76c,
     0x74d, 0x74e, 0x0ba, 0x0b6, 0x771, 0x772, 0x753, 0x774, 0x755, 0x756, 0x097, 0x0b3, 0x759,
@@ -113,8 +113,9 @@ pub(crate) static SYMBOLS_AT_PLUS: [u16; 256] = [
     0x1e8, 0x1cc, 0x619, 0x61a, 0x1e4, 0x61c, 0x1e2, 0x1e1, 0x1ca,
 ];
 
-/// What each symbol spells: an octet in the low eight bits, BCh for the comma, with `AT_MINUS`, `AT_PLUS`,
-/// `CHANGES_DISPARITY` and `IS_COMMA`. The entry is 0 where neither disparity spells the symbol.
+/// What each symbol spells, by its bits with bit a lowest: the octet in the low eight bits, BCh for the
+/// comma, with `AT_MINUS`, `AT_PLUS`, `CHANGES_DISPARITY` and `IS_COMMA`. An entry is 0 where neither
+/// disparity spells the symbol.
 pub(crate) static SPELLED: [u16; 1024] = [
     0x000, 0x000, 0x000, 0x000, 0x000, 0x000, 0x000, 0x000, 0x000, 0x000, 0x000, 0x000, 0x000,
     0x000, 0x000, 0x000, 0x000, 0x000, 0x000, 0x000, 0x000, 0x000, 0x000, 0x000, 0x000, 0x000,
