@@ -1,0 +1,3 @@
+pub mod ManagedPlaces
+pub mod Octets
+pub mod Hyperframe

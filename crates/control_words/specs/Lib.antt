@@ -1,0 +1,5 @@
+pub mod WordSize
+pub mod Announcement
+pub mod Places
+pub mod ControlWord
+pub mod Reading
