@@ -1,7 +1,7 @@
 -- The octets of the channels are the first octets of a word.
-use Rattle.std.specs.Prelude.{◌≡◌, ℕ, ◌+◌, ◌-◌, ◌%◌, ◌<◌, ◌≤◌, min, Bool, true, false, cond, ◌==◌, ◌&&◌, ◌||◌, nat_lt, nat_le, count_by, refl}
+use Rattle.std.specs.Prelude.{◌≡◌, ℕ, ◌+◌, ◌-◌, ◌<◌, ◌≤◌, min, Bool, true, false, cond, ◌==◌, ◌&&◌, ◌||◌, nat_lt, count_by, refl}
 use Rattle.std.specs.List.{range_with_len}
-use Rattle.std.proofs.Common.{arith, zero, suc, ap, ◌∙◌, sym}
+use Rattle.std.proofs.Common.{arith, zero, suc, ap, ◌∙◌}
 use Rattle.std.proofs.lemmas.Bool.Decides.{nat_tests}
 use Rattle.std.proofs.lemmas.List.Sums.{sum_by-cons}
 use Rattle.control_words.specs.declared.announce.Announce.{Announce}

@@ -1,6 +1,4 @@
-use Rattle.std.proofs.Common.{◌≡◌, ℕ, ◌<◌, nat_lt, sym, arith, ◌∙◌, Bool, false, true, ◌||◌}
-use Rattle.std.proofs.lemmas.Bool.Decides.{nat_tests}
-use Rattle.control_words.specs.Places.{is_managed_place, is_fast_place, is_slow_place}
+use Rattle.std.proofs.Common.{sym, arith, ◌∙◌}
 use Rattle.control_words.proofs.ManagedPlaces.{managed_count, managed_slow, managed_fast}
 use Rattle.control_words.proofs.places.managed_len.Goals as goal
 
