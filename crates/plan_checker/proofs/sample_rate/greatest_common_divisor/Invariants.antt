@@ -1,0 +1,10 @@
+use Rattle.std.proofs.Common.{ℕ}
+use Rattle.std.specs.Int.{IsGcd}
+use Rattle.plan_checker.proofs.sample_rate.greatest_common_divisor.Given as goal
+
+-- a common divisor that is greatest now is one of what was given
+abbrev pub invariant-loop-y : goal.invariant-loop-y
+invariant-loop-y l = (g : ℕ) → IsGcd l.x l.y g → IsGcd l.fn.a l.fn.b g
+
+abbrev pub decreases-loop-y : goal.decreases-loop-y
+decreases-loop-y l = l.y

@@ -1,0 +1,5 @@
+pub mod WordSize
+pub mod SampleRate
+pub mod Container
+pub mod Rules
+pub mod Run
