@@ -1,1 +1,3 @@
 pub mod Divisors
+pub mod Failures
+pub mod Longest

@@ -1,5 +1,5 @@
 -- The rate of an antenna carrier: S samples in K basic frames (CPRI V7.0, section 4.2.7.2).
-use Rattle.std.specs.Prelude.{ℕ, ◌≡◌, ◌*◌, ◌<◌, ◌≤◌}
+use Rattle.std.specs.Prelude.{ℕ, ◌≡◌, ◌*◌, ◌≤◌}
 use Rattle.std.specs.Int.{◌∣◌}
 use Rattle.carrier_plan.specs.declared.plan.Carrier.{Carrier}
 

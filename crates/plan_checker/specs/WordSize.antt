@@ -1,5 +1,5 @@
 -- The size of a word of the basic frame (CPRI V7.0, section 4.2.3), for the line bit rate options in 8B/10B code.
-use Rattle.std.specs.Prelude.{ℕ, ◌*◌, ◌<◌, ◌≤◌, ◌==◌, if◌then◌else◌}
+use Rattle.std.specs.Prelude.{ℕ, ◌*◌, ◌≤◌, ◌==◌, if◌then◌else◌}
 
 -- the option is 1 to 7
 abbrev pub IsLineOption : ℕ → Type 0

@@ -1,10 +1,10 @@
 //! The rules that a plan of a link has to meet, and the numbers of a plan that meets them.
 #![tactic(auto)]
 
-
+mod checked;
 mod container;
 mod rules;
 mod sample_rate;
 mod word_size;
 
-
+pub use checked::{Checked, Refused, check};

@@ -1,5 +1,5 @@
 // The rules of a plan, each tried in one walk over its carriers.
-ghost use Rattle.std.specs.Prelude.{IsTrue, MatchOption, ◌↔◌};
+ghost use Rattle.std.specs.Prelude.{IsTrue, MatchOption, length, ◌<◌, ◌↔◌};
 ghost use Rattle.plan_checker.specs.Rules.{FailsFirstAt, Holds, IsFirstFailure, IsGood, IsMet};
 ghost use Rattle.plan_checker.specs.Rules.Rule.{LineOption, CarrierCount, SampleRate, SampleWidth, ContainerSize, ContainerEnd, SeparateBits};
 
@@ -30,14 +30,20 @@ fn has_carriers(plan: &Plan) -> bool
 fn wrong_rate(plan: &Plan) -> Option<usize>
     ensures { MatchOption result (IsMet plan.now SampleRate) (FailsFirstAt plan.now SampleRate) }
 {
-    plan.carriers.as_slice().iter().position(|carrier| !has_sample_rate(carrier))
+    plan.carriers
+        .as_slice()
+        .iter()
+        .position(|carrier| !has_sample_rate(carrier))
 }
 
 // The first carrier whose samples are too narrow or too wide.
 fn wrong_width(plan: &Plan) -> Option<usize>
     ensures { MatchOption result (IsMet plan.now SampleWidth) (FailsFirstAt plan.now SampleWidth) }
 {
-    plan.carriers.as_slice().iter().position(|carrier| !has_sample_width(carrier))
+    plan.carriers
+        .as_slice()
+        .iter()
+        .position(|carrier| !has_sample_width(carrier))
 }
 
 // The first carrier whose container is not as long as prescribed.
@@ -59,18 +65,75 @@ fn wrong_end(plan: &Plan) -> Option<usize>
     ensures { MatchOption result (IsMet plan.now ContainerEnd) (FailsFirstAt plan.now ContainerEnd) }
 {
     let bits = 120 * octets_of_word(plan.option) as u64;
-    plan.carriers.as_slice().iter().position(|carrier| !lies_within(carrier, bits))
+    plan.carriers
+        .as_slice()
+        .iter()
+        .position(|carrier| !lies_within(carrier, bits))
+}
+
+// Whether the container of carrier `i` shares no bit with that of an earlier carrier.
+fn has_separate_bits(plan: &Plan, i: usize) -> bool
+    requires { i < length plan.now.carriers }
+    ensures { IsTrue result ↔ Holds plan.now SeparateBits i }
+{
+    let carriers = plan.carriers.as_slice();
+    let carrier = &carriers[i];
+    carriers[..i]
+        .iter()
+        .all(|earlier| shares_no_bit(earlier, carrier))
 }
 
 // The first carrier whose container shares a bit with that of an earlier carrier.
 fn shared_bits(plan: &Plan) -> Option<usize>
     ensures { MatchOption result (IsMet plan.now SeparateBits) (FailsFirstAt plan.now SeparateBits) }
 {
-    let carriers = plan.carriers.as_slice();
-    for (i, carrier) in carriers.iter().enumerate() {
-        if !carriers[..i].iter().all(|earlier| shares_no_bit(earlier, carrier)) {
+    for i in 0..plan.carriers.len() {
+        if !has_separate_bits(plan, i) {
             return Some(i);
         }
+    }
+    None
+}
+
+// The first failure of a plan, by rule and then by item.
+pub(crate) fn first_failure(plan: &Plan) -> Option<Failure>
+    ensures { MatchOption result (IsGood plan.now) (λ f. IsFirstFailure plan.now f.rule f.item) }
+{
+    if !has_line_option(plan) {
+        return Some(Failure { rule: 1, item: 0 });
+    }
+    if !has_carriers(plan) {
+        return Some(Failure { rule: 2, item: 0 });
+    }
+    if let Some(i) = wrong_rate(plan) {
+        return Some(Failure {
+            rule: 4,
+            item: i as u32,
+        });
+    }
+    if let Some(i) = wrong_width(plan) {
+        return Some(Failure {
+            rule: 5,
+            item: i as u32,
+        });
+    }
+    if let Some(i) = wrong_size(plan) {
+        return Some(Failure {
+            rule: 6,
+            item: i as u32,
+        });
+    }
+    if let Some(i) = wrong_end(plan) {
+        return Some(Failure {
+            rule: 7,
+            item: i as u32,
+        });
+    }
+    if let Some(i) = shared_bits(plan) {
+        return Some(Failure {
+            rule: 8,
+            item: i as u32,
+        });
     }
     None
 }
