@@ -1,5 +1,5 @@
 -- The first failure, from what the rules before it say.
-use Rattle.std.proofs.Common.{ℕ, ◌<◌, arith, refl}
+use Rattle.std.proofs.Common.{◌≡◌, ℕ, ◌<◌, arith, subst, sym}
 use Rattle.carrier_plan.specs.declared.plan.Plan.{Plan}
 use Rattle.plan_checker.specs.Rules.{Rule, number_of, Holds, IsMet, FailsFirstAt, IsFirstFailure}
 use Rattle.plan_checker.specs.Rules.Rule.{LineOption, CarrierCount, SampleRate, SampleWidth, ContainerSize, ContainerEnd, SeparateBits}
@@ -14,10 +14,15 @@ fails_on_plan p h = record { in_range = omega arith; fails = h; before = λ j lt
 pub fails_on_count : (p : Plan) → ¬ Holds p CarrierCount 0 → FailsFirstAt p CarrierCount 0
 fails_on_count p h = record { in_range = omega arith; fails = h; before = λ j lt. absurd (omega arith) }
 
-pub first_at : (p : Plan) (r : Rule) (i : ℕ) → FailsFirstAt p r i → IsMetBelow p (number_of r) → IsFirstFailure p (number_of r) i
-first_at p r i h met = record { rule = r; numbered = refl; fails = h; before = met }
+pub first_at : (p : Plan) (r : Rule) (i n j : ℕ) → FailsFirstAt p r i → IsMetBelow p (number_of r) → n ≡ number_of r → j ≡ i → IsFirstFailure p n j
+first_at p r i n j h met is_number is_item =
+    record {
+      rule = r;
+      numbered = sym is_number;
+      fails = subst (λ k. FailsFirstAt p r k) (sym is_item) h;
+      before = subst (λ k. IsMetBelow p k) (sym is_number) met
+    }
 
--- the first five rules that have no failure
 pub met_below_1 : (p : Plan) → IsMetBelow p 1
 met_below_1 p LineOption lt = absurd (omega arith)
 met_below_1 p CarrierCount lt = absurd (omega arith)

@@ -8,3 +8,6 @@ mod sample_rate;
 mod word_size;
 
 pub use checked::{Checked, Refused, check};
+
+#[cfg(test)]
+mod tests;

@@ -1,5 +1,5 @@
 // The rules of a plan, each tried in one walk over its carriers.
-ghost use Rattle.std.specs.Prelude.{IsTrue, MatchOption, length, ◌<◌, ◌↔◌};
+ghost use Rattle.std.specs.Prelude.{IsTrue, MatchOption, length, ◌≡◌, ◌<◌, ◌^◌, ◌↔◌};
 ghost use Rattle.plan_checker.specs.Rules.{FailsFirstAt, Holds, IsFirstFailure, IsGood, IsMet};
 ghost use Rattle.plan_checker.specs.Rules.Rule.{LineOption, CarrierCount, SampleRate, SampleWidth, ContainerSize, ContainerEnd, SeparateBits};
 
@@ -12,6 +12,19 @@ use carrier_plan::Plan;
 pub(crate) struct Failure {
     pub(crate) rule: u32,
     pub(crate) item: u32,
+}
+
+impl Failure {
+    fn at(rule: u32, place: usize) -> Failure
+        requires { place < 2 ^ 32 }
+        ensures number { result.rule ≡ rule }
+        ensures carrier { result.item ≡ place }
+    {
+        Failure {
+            rule,
+            item: place as u32,
+        }
+    }
 }
 
 fn has_line_option(plan: &Plan) -> bool
@@ -106,34 +119,19 @@ pub(crate) fn first_failure(plan: &Plan) -> Option<Failure>
         return Some(Failure { rule: 2, item: 0 });
     }
     if let Some(i) = wrong_rate(plan) {
-        return Some(Failure {
-            rule: 4,
-            item: i as u32,
-        });
+        return Some(Failure::at(4, i));
     }
     if let Some(i) = wrong_width(plan) {
-        return Some(Failure {
-            rule: 5,
-            item: i as u32,
-        });
+        return Some(Failure::at(5, i));
     }
     if let Some(i) = wrong_size(plan) {
-        return Some(Failure {
-            rule: 6,
-            item: i as u32,
-        });
+        return Some(Failure::at(6, i));
     }
     if let Some(i) = wrong_end(plan) {
-        return Some(Failure {
-            rule: 7,
-            item: i as u32,
-        });
+        return Some(Failure::at(7, i));
     }
     if let Some(i) = shared_bits(plan) {
-        return Some(Failure {
-            rule: 8,
-            item: i as u32,
-        });
+        return Some(Failure::at(8, i));
     }
     None
 }
