@@ -2,7 +2,12 @@
 #![tactic(auto)]
 
 mod carrier_list;
+mod fault;
 mod plan;
+mod printed;
+mod reading;
 
 pub use carrier_list::CarrierList;
+pub use fault::{Field, Part, PlanText, ReadError, Spot};
 pub use plan::{Carrier, Method, Mode, Plan};
+pub use reading::read;

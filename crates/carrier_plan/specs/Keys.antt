@@ -1,0 +1,62 @@
+-- The keys of a plan file, each with what its value stands for. This project's own format.
+use Rattle.std.specs.Prelude.{codes, ℕ, ◌^◌, ◌==◌, ℤ, pos, negsuc, nat_lt, bytes_eq, List, [], ◌∷◌, Result, Ok, Err, if◌then◌else◌}
+use Rattle.toml.specs.Data.{Data, string, integer}
+use Rattle.carrier_plan.specs.declared.plan.Mode.{Mode}
+use Rattle.carrier_plan.specs.declared.plan.Mode.TheVariants.{Tunnel, Bytes, Aware}
+use Rattle.carrier_plan.specs.declared.plan.Method.{Method}
+use Rattle.carrier_plan.specs.declared.plan.Method.TheVariants.{Sample, Compatible}
+use Rattle.carrier_plan.specs.declared.fault.Field.{Field}
+use Rattle.carrier_plan.specs.declared.fault.Field.TheVariants as field
+use Rattle.carrier_plan.specs.declared.fault.Spot.{Spot}
+use Rattle.carrier_plan.specs.declared.fault.PlanText.{PlanText}
+use Rattle.carrier_plan.specs.declared.fault.PlanText.TheVariants.{Kind, Value}
+
+-- a key as it stands in the file
+abbrev pub key_of : Field → List ℕ
+key_of field.Version = codes "version"
+key_of field.LineOption = codes "option"
+key_of field.Mode = codes "mode"
+key_of field.Playout = codes "playout"
+key_of field.Carrier = codes "carrier"
+key_of field.Method = codes "method"
+key_of field.S = codes "s"
+key_of field.K = codes "k"
+key_of field.M = codes "m"
+key_of field.Start = codes "start"
+key_of field.Size = codes "size"
+
+-- the keys of the whole document, and those of one carrier
+abbrev pub top_fields : List Field
+top_fields = field.Version ∷ field.LineOption ∷ field.Mode ∷ field.Playout ∷ field.Carrier ∷ []
+
+abbrev pub carrier_fields : List Field
+carrier_fields = field.Method ∷ field.S ∷ field.K ∷ field.M ∷ field.Start ∷ field.Size ∷ []
+
+-- a whole number from 0 to 4,294,967,295
+abbrev pub in_range : Spot → ℤ → Result ℕ PlanText
+in_range spot (pos n) = if nat_lt n (2 ^ 32) then Ok n else Err (Value spot)
+in_range spot (negsuc n) = Err (Value spot)
+
+abbrev pub number_of : Spot → Data → Result ℕ PlanText
+number_of spot (integer z) = in_range spot z
+number_of spot _ = Err (Kind spot)
+
+-- the one version is 1
+abbrev pub known_version : Spot → ℕ → Result ℕ PlanText
+known_version spot n = if n == 1 then Ok n else Err (Value spot)
+
+-- the method, by its number
+abbrev pub method_numbered : Spot → ℕ → Result Method PlanText
+method_numbered spot n =
+    if n == 1 then Ok Sample else (if n == 3 then Ok Compatible else Err (Value spot))
+
+-- the mode, by its name
+abbrev pub mode_named : Spot → List ℕ → Result Mode PlanText
+mode_named spot name =
+    if bytes_eq name (codes "tunnel") then Ok Tunnel
+    else (if bytes_eq name (codes "bytes") then Ok Bytes
+    else (if bytes_eq name (codes "aware") then Ok Aware else Err (Value spot)))
+
+abbrev pub mode_of : Spot → Data → Result Mode PlanText
+mode_of spot (string name) = mode_named spot name
+mode_of spot _ = Err (Kind spot)

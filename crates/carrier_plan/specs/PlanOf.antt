@@ -1,0 +1,140 @@
+-- The plan that the octets of a file are, or the first fault in them. This project's own format, over the
+-- table that TOML gives for a text.
+use Rattle.std.specs.Prelude.{◌≡◌, ℕ, suc, Bool, not, nat_lt, bytes_eq, List, [], ◌∷◌, length, Option, Some, None, Result, Ok, Err, if◌then◌else◌}
+use Rattle.std.specs.List.{list_any}
+use Rattle.std.specs.Str.{is_utf8}
+use Rattle.toml.specs.Data.{Data, array, table, Items, no_items, item, Members, no_members, member, get_member}
+use Rattle.toml.specs.Parse.{parse_document}
+use Rattle.carrier_plan.specs.declared.plan.Method.{Method}
+use Rattle.carrier_plan.specs.declared.plan.Mode.{Mode}
+use Rattle.carrier_plan.specs.declared.plan.Carrier.{Carrier}
+use Rattle.carrier_plan.specs.declared.plan.Plan.{Plan}
+use Rattle.carrier_plan.specs.declared.fault.Field.{Field}
+use Rattle.carrier_plan.specs.declared.fault.Field.TheVariants as field
+use Rattle.carrier_plan.specs.declared.fault.Part.TheVariants as part
+use Rattle.carrier_plan.specs.declared.fault.Spot.{Spot}
+use Rattle.carrier_plan.specs.declared.fault.PlanText.{PlanText}
+use Rattle.carrier_plan.specs.declared.fault.PlanText.TheVariants.{Long, Utf8, Toml, Missing, Kind, Extra}
+use Rattle.carrier_plan.specs.declared.fault.ReadError.{ReadError}
+use Rattle.carrier_plan.specs.declared.fault.ReadError.TheVariants as error
+use Rattle.carrier_plan.specs.Keys.{key_of, top_fields, carrier_fields, number_of, known_version, method_numbered, mode_of}
+
+infixl 10 ◌>>=◌
+abbrev pub ◌>>=◌ : {A B : Type 0} → Result A PlanText → (A → Result B PlanText) → Result B PlanText
+(Ok x) >>= f = f x
+(Err e) >>= f = Err e
+
+-- the value of a required key
+abbrev pub required : Spot → Option Data → Result Data PlanText
+required spot None = Err (Missing spot)
+required spot (Some d) = Ok d
+
+abbrev pub value_at : Members → Spot → Result Data PlanText
+value_at keys spot = required spot (get_member (key_of spot.field) keys)
+
+-- the keys that have a value of one kind
+abbrev pub number_at : Members → Spot → Result ℕ PlanText
+number_at keys spot = value_at keys spot >>= number_of spot
+
+abbrev pub version_at : Members → Spot → Result ℕ PlanText
+version_at keys spot = number_at keys spot >>= known_version spot
+
+abbrev pub method_at : Members → Spot → Result Method PlanText
+method_at keys spot = number_at keys spot >>= method_numbered spot
+
+-- the keys of a table, in its order
+abbrev pub keys_in : Members → List (List ℕ)
+keys_in no_members = []
+keys_in (member key d rest) = key ∷ keys_in rest
+
+-- some key of the table is the key of none of these fields
+abbrev pub is_known : List Field → List ℕ → Bool
+is_known fields key = list_any (λ f. bytes_eq (key_of f) key) fields
+
+abbrev pub has_extra : List Field → Members → Bool
+has_extra fields keys = list_any (λ key. not (is_known fields key)) (keys_in keys)
+
+abbrev pub mode_at : Members → Spot → Result Mode PlanText
+mode_at keys spot = value_at keys spot >>= mode_of spot
+
+-- a key of the whole document, and one of the carrier at a place
+abbrev pub top : Field → Spot
+top f = record { part = part.Top; field = f }
+
+abbrev pub of_carrier : ℕ → Field → Spot
+of_carrier i f = record { part = part.Carrier i; field = f }
+
+-- the rate of a carrier: S samples in K basic frames, of I and Q in M bits
+unfoldable pub rate_in : ℕ → Members → Result (ℕ × ℕ × ℕ) PlanText
+rate_in i keys = do
+  s ← number_at keys (of_carrier i field.S)
+  k ← number_at keys (of_carrier i field.K)
+  m ← number_at keys (of_carrier i field.M)
+  Ok (s, k, m)
+
+-- its container: the first IQ bit, and how many
+unfoldable pub container_in : ℕ → Members → Result (ℕ × ℕ) PlanText
+container_in i keys = do
+  start ← number_at keys (of_carrier i field.Start)
+  size ← number_at keys (of_carrier i field.Size)
+  Ok (start, size)
+
+-- a carrier: its keys in their order, and no others
+unfoldable pub carrier_in : ℕ → Members → Result Carrier PlanText
+carrier_in i keys = do
+  method ← method_at keys (of_carrier i field.Method)
+  rate ← rate_in i keys
+  container ← container_in i keys
+  if has_extra carrier_fields keys then Err (Extra (part.Carrier i))
+      else Ok (record { method = method; s = rate.0; k = rate.1; m = rate.2; start = container.0; size = container.1 })
+
+-- an element of the array `carrier`, which has to be a table
+abbrev pub carrier_of : ℕ → Data → Result Carrier PlanText
+carrier_of i (table keys) = carrier_in i keys
+carrier_of i _ = Err (Kind (of_carrier i field.Carrier))
+
+-- the elements from place i on, each judged in its turn
+abbrev pub carriers_from : ℕ → Items → Result (List Carrier) PlanText
+carriers_from i no_items = Ok []
+carriers_from i (item d rest) = do
+  first ← carrier_of i d
+  others ← carriers_from (suc i) rest
+  Ok (first ∷ others)
+
+-- the carriers, none where the key is absent
+abbrev pub carriers_of : Option Data → Result (List Carrier) PlanText
+carriers_of None = Ok []
+carriers_of (Some (array elements)) = carriers_from 0 elements
+carriers_of (Some _) = Err (Kind (top field.Carrier))
+
+-- the whole document: its keys in their order, no others, and then the carriers
+unfoldable pub plan_in : Members → Result Plan PlanText
+plan_in keys = do
+  version ← version_at keys (top field.Version)
+  option ← number_at keys (top field.LineOption)
+  mode ← mode_at keys (top field.Mode)
+  playout ← number_at keys (top field.Playout)
+  if has_extra top_fields keys then Err (Extra part.Top)
+      else (carriers_of (get_member (key_of field.Carrier) keys) >>= (λ carriers.
+      Ok (record { option = option; mode = mode; playout = playout; carriers = carriers })))
+
+-- what TOML gives for the text, or nothing where it refuses the text
+abbrev pub plan_of_document : Option Members → Result Plan PlanText
+plan_of_document None = Err Toml
+plan_of_document (Some keys) = plan_in keys
+
+-- at most 65,536 octets of UTF-8 that are TOML
+unfoldable pub plan_of : List ℕ → Result Plan PlanText
+plan_of octets =
+    if nat_lt 65536 (length octets) then Err Long
+    else (if is_utf8 octets then plan_of_document (parse_document octets) else Err Utf8)
+
+-- a refusal that stands where reading meets this fault; want of memory may stand anywhere
+abbrev pub IsFaultOf : {A : Type 0} → Result A PlanText → ReadError → Type 0
+IsFaultOf read (error.Text fault) = read ≡ Err fault
+IsFaultOf read error.NoMemory = Unit {0}
+
+-- what a call answered is what reading gives, unless memory ran out
+abbrev pub Gives : {A : Type 0} → Result A ReadError → Result A PlanText → Type 0
+Gives (Ok x) read = read ≡ Ok x
+Gives (Err e) read = IsFaultOf read e

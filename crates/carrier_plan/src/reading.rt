@@ -1,0 +1,251 @@
+// Reading a plan from the text of its file.
+ghost use Rattle.std.specs.Prelude.{◌≡◌, Ok, Err, IfOk, IfErr, MatchResult, option_map};
+ghost use Rattle.toml.specs.Data.{get_member};
+ghost use Rattle.toml.specs.View.{view, table_view, items_view};
+ghost use Rattle.carrier_plan.specs.Keys.{key_of, number_of, known_version, method_numbered, mode_of};
+ghost use Rattle.carrier_plan.specs.PlanOf.{value_at, number_at, version_at, method_at, mode_at, is_known, rate_in, container_in, carrier_in, carrier_of, carriers_from, carriers_of, plan_in, plan_of, IsFaultOf, Gives};
+ghost use Rattle.carrier_plan.specs.PlanOf as document;
+
+use crate::carrier_list::CarrierList;
+use crate::fault::{Field, Part, PlanText, ReadError, Spot};
+use crate::plan::{Carrier, Method, Mode, Plan};
+use std::alloc::Global;
+use toml::{Table, Value};
+
+/// The greatest number of octets of a plan.
+const LONGEST: usize = 65_536;
+
+const TOP_FIELDS: [Field; 5] = [
+    Field::Version,
+    Field::LineOption,
+    Field::Mode,
+    Field::Playout,
+    Field::Carrier,
+];
+
+const CARRIER_FIELDS: [Field; 6] = [
+    Field::Method,
+    Field::S,
+    Field::K,
+    Field::M,
+    Field::Start,
+    Field::Size,
+];
+
+fn top(field: Field) -> Spot
+    ensures { result ≡ document.top field }
+{
+    Spot {
+        part: Part::Top,
+        field,
+    }
+}
+
+fn of_carrier(i: u32, field: Field) -> Spot
+    ensures { result ≡ document.of_carrier i field }
+{
+    Spot {
+        part: Part::Carrier(i),
+        field,
+    }
+}
+
+fn member(table: &Table, field: Field) -> Option<&Value>
+    ensures { option_map (λ value. view value.now) result ≡ get_member (key_of field) (table_view table.now) }
+{
+    table.get(field.key())
+}
+
+fn value_at(table: &Table, spot: Spot) -> Result<&Value, PlanText>
+    ensures { MatchResult result
+        (λ value. value_at (table_view table.now) spot ≡ Ok (view value.now))
+        (λ fault. value_at (table_view table.now) spot ≡ Err fault) }
+{
+    match member(table, spot.field) {
+        Some(value) => Ok(value),
+        None => Err(PlanText::Missing(spot)),
+    }
+}
+
+fn number_of(value: &Value, spot: Spot) -> Result<u32, PlanText>
+    ensures { result ≡ number_of spot (view value.now) }
+{
+    match value {
+        Value::Integer(number) => u32::try_from(*number).map_err(|_| PlanText::Value(spot)),
+        _ => Err(PlanText::Kind(spot)),
+    }
+}
+
+fn number_at(table: &Table, spot: Spot) -> Result<u32, PlanText>
+    ensures { result ≡ number_at (table_view table.now) spot }
+{
+    number_of(value_at(table, spot)?, spot)
+}
+
+fn version_at(table: &Table, spot: Spot) -> Result<u32, PlanText>
+    ensures { result ≡ version_at (table_view table.now) spot }
+{
+    match number_at(table, spot)? {
+        1 => Ok(1),
+        _ => Err(PlanText::Value(spot)),
+    }
+}
+
+fn method_at(table: &Table, spot: Spot) -> Result<Method, PlanText>
+    ensures { result ≡ method_at (table_view table.now) spot }
+{
+    match number_at(table, spot)? {
+        1 => Ok(Method::Sample),
+        3 => Ok(Method::Compatible),
+        _ => Err(PlanText::Value(spot)),
+    }
+}
+
+fn mode_of(value: &Value, spot: Spot) -> Result<Mode, PlanText>
+    ensures { result ≡ mode_of spot (view value.now) }
+{
+    let Value::String(name) = value else {
+        return Err(PlanText::Kind(spot));
+    };
+    match name.as_str() {
+        "tunnel" => Ok(Mode::Tunnel),
+        "bytes" => Ok(Mode::Bytes),
+        "aware" => Ok(Mode::Aware),
+        _ => Err(PlanText::Value(spot)),
+    }
+}
+
+fn mode_at(table: &Table, spot: Spot) -> Result<Mode, PlanText>
+    ensures { result ≡ mode_at (table_view table.now) spot }
+{
+    mode_of(value_at(table, spot)?, spot)
+}
+
+fn has_extra(table: &Table, fields: &[Field]) -> bool
+    ensures { result ≡ document.has_extra fields.now (table_view table.now) }
+{
+    table.keys().any(|key| !is_known(fields, key.as_str()))
+}
+
+fn is_known(fields: &[Field], key: &str) -> bool
+    ensures { result ≡ is_known fields.now key.now }
+{
+    fields.iter().any(|field| field.key() == key)
+}
+
+// `s`, `k` and `m`.
+#[tactic(auto, unfolding(crate::specs::PlanOf::rate_in))]
+fn rate_in(table: &Table, i: u32) -> Result<(u32, u32, u32), PlanText>
+    ensures { result ≡ rate_in i (table_view table.now) }
+{
+    let s = number_at(table, of_carrier(i, Field::S))?;
+    let k = number_at(table, of_carrier(i, Field::K))?;
+    let m = number_at(table, of_carrier(i, Field::M))?;
+    Ok((s, k, m))
+}
+
+// `start` and `size`.
+#[tactic(auto, unfolding(crate::specs::PlanOf::container_in))]
+fn container_in(table: &Table, i: u32) -> Result<(u32, u32), PlanText>
+    ensures { result ≡ container_in i (table_view table.now) }
+{
+    let start = number_at(table, of_carrier(i, Field::Start))?;
+    let size = number_at(table, of_carrier(i, Field::Size))?;
+    Ok((start, size))
+}
+
+#[tactic(auto, unfolding(crate::specs::PlanOf::carrier_in))]
+fn carrier_in(table: &Table, i: u32) -> Result<Carrier, PlanText>
+    ensures { result ≡ carrier_in i (table_view table.now) }
+{
+    let method = method_at(table, of_carrier(i, Field::Method))?;
+    let (s, k, m) = rate_in(table, i)?;
+    let (start, size) = container_in(table, i)?;
+    if has_extra(table, &CARRIER_FIELDS) {
+        return Err(PlanText::Extra(Part::Carrier(i)));
+    }
+    Ok(Carrier {
+        method,
+        s,
+        k,
+        m,
+        start,
+        size,
+    })
+}
+
+fn carrier_of(value: &Value, i: u32) -> Result<Carrier, PlanText>
+    ensures { result ≡ carrier_of i (view value.now) }
+{
+    match value {
+        Value::Table(table) => carrier_in(table, i),
+        _ => Err(PlanText::Kind(of_carrier(i, Field::Carrier))),
+    }
+}
+
+fn carriers_from(alloc: Global, values: &[Value]) -> Result<CarrierList, ReadError>
+    ensures { Gives result (carriers_from 0 (items_view values.now)) }
+{
+    let mut carriers = CarrierList::new(alloc);
+    for (place, value) in values.iter().enumerate() {
+        // No text of a plan's length has as many elements as a u32 counts.
+        let Ok(i) = u32::try_from(place) else {
+            return Err(ReadError::NoMemory);
+        };
+        carriers.push(carrier_of(value, i)?)?;
+    }
+    Ok(carriers)
+}
+
+fn carriers_of(alloc: Global, table: &Table) -> Result<CarrierList, ReadError>
+    ensures { Gives result (carriers_of (get_member (key_of Field.Carrier) (table_view table.now))) }
+{
+    match member(table, Field::Carrier) {
+        None => Ok(CarrierList::new(alloc)),
+        Some(Value::Array(values)) => carriers_from(alloc, values),
+        Some(_) => Err(ReadError::Text(PlanText::Kind(top(Field::Carrier)))),
+    }
+}
+
+#[tactic(auto, unfolding(crate::specs::PlanOf::plan_in))]
+fn plan_in(alloc: Global, table: &Table) -> Result<Plan, ReadError>
+    ensures { Gives result (plan_in (table_view table.now)) }
+{
+    version_at(table, top(Field::Version))?;
+    let option = number_at(table, top(Field::LineOption))?;
+    let mode = mode_at(table, top(Field::Mode))?;
+    let playout = number_at(table, top(Field::Playout))?;
+    if has_extra(table, &TOP_FIELDS) {
+        return Err(ReadError::Text(PlanText::Extra(Part::Top)));
+    }
+    let carriers = carriers_of(alloc, table)?;
+    Ok(Plan {
+        option,
+        mode,
+        playout,
+        carriers,
+    })
+}
+
+/// The plan that the octets of a file are, or the first fault in them.
+///
+/// The faults are tried in the order of `PlanText`'s first three variants, then key by key: the keys of the
+/// whole document in the order of `Field`, its extra keys, and then each carrier with its own. For one key
+/// `Missing` is tried first, then `Kind`, then `Value`.
+#[tactic(auto, unfolding(crate::specs::PlanOf::plan_of))]
+pub fn read(alloc: Global, octets: &[u8]) -> Result<Plan, ReadError>
+    ensures plan { IfOk result (λ plan. plan_of octets.now ≡ Ok plan) }
+    ensures fault { IfErr result (IsFaultOf (plan_of octets.now)) }
+{
+    if octets.len() > LONGEST {
+        return Err(ReadError::Text(PlanText::Long));
+    }
+    let Ok(text) = std::str::from_utf8(octets) else {
+        return Err(ReadError::Text(PlanText::Utf8));
+    };
+    match toml::table_from_str(alloc, text) {
+        Ok(table) => plan_in(alloc, &table),
+        Err(error) if error.is_memory() => Err(ReadError::NoMemory),
+        Err(_) => Err(ReadError::Text(PlanText::Toml)),
+    }
+}
