@@ -1,0 +1,27 @@
+-- The texts that are printed. Each line ends with one line feed. They are this project's own.
+use Rattle.std.specs.Prelude.{codes, decimal, ℕ, List, [], ◌∷◌, ◌++◌, length}
+use Rattle.std.specs.List.{flat_map}
+use Rattle.std.specs.List.{range_with_len}
+use Rattle.carrier_plan.specs.declared.plan.Plan.{Plan}
+use Rattle.carrier_plan.specs.declared.fault.PlanText.{PlanText}
+use Rattle.carrier_plan.specs.Printed.{plan_text_line}
+use Rattle.plan_checker.specs.Run.{delay_of}
+
+abbrev pub ended : List ℕ → List ℕ
+ended line = line ++ 10 ∷ []
+
+-- the delay of the carrier at place c
+unfoldable pub delay_line : Plan → ℕ → List ℕ
+delay_line p c = codes "carrier " ++ decimal c ++ codes " delay " ++ decimal (delay_of p c) ++ 10 ∷ []
+
+-- of a plan that meets the rules: yes, and the delay of each carrier
+unfoldable pub yes_text : Plan → List ℕ
+yes_text p = ended (codes "yes") ++ flat_map (delay_line p) (range_with_len 0 (length p.carriers))
+
+-- of a plan that fails this rule first, at this item
+unfoldable pub no_text : ℕ → ℕ → List ℕ
+no_text rule item = codes "no " ++ decimal rule ++ codes " " ++ decimal item ++ 10 ∷ []
+
+-- of a file that is no plan
+unfoldable pub fault_text : PlanText → List ℕ
+fault_text fault = ended (plan_text_line fault)

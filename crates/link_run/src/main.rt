@@ -1,0 +1,10 @@
+//! `roe_link`: whether a plan of a CPRI link in Radio-over-Ethernet packets holds.
+#![tactic(auto)]
+
+mod form;
+mod plan_file;
+mod status;
+
+pub use status::{Status, code};
+
+fn main(rt: HostRuntime) {}

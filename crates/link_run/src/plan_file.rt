@@ -1,0 +1,73 @@
+// Reads the file of a plan.
+ghost use Rattle.std.specs.Prelude.{◌≡◌, ◌≤◌, length, IsTrue, IfOk, OnErr, IsErrOf};
+ghost use Rattle.link_base.specs.Faults.{HasCause};
+ghost use Rattle.link_base.specs.Shelf.{SameFiles};
+ghost use Rattle.link_run.specs.Promises.{Counts};
+ghost use Rattle.link_run.specs.PlanFile.{IsPlanFile, FailsAtFile, Fills, FailsToFill};
+ghost use Rattle.link_run.specs.declared.plan_file.FileError.TheVariants.{Fault, Memory};
+
+use link_base::{Failed, Shelf};
+use std::alloc::{AllocError, Global};
+
+/// The most octets of a plan's file that are read: one more than a plan may have.
+const PLAN_LIMIT: usize = 65_537;
+
+/// Why a file was not read.
+#[derive(Clone, Copy, Debug, PartialEq, Eq)]
+pub enum FileError {
+    Fault,
+    Memory,
+}
+
+impl From<Failed> for FileError {
+    ghost from_gives = { λ _ e. e ≡ Fault };
+
+    fn from(_: Failed) -> Self {
+        FileError::Fault
+    }
+}
+
+impl From<AllocError> for FileError {
+    ghost from_gives = { λ _ e. e ≡ Memory };
+
+    fn from(_: AllocError) -> Self {
+        FileError::Memory
+    }
+}
+
+// Reads octets of the selected file until the buffer is full or the file ends, and answers how many.
+fn fill<H: Shelf>(shelf: &mut H, buf: &mut [u8]) -> Result<usize, Failed>
+    ensures cause { HasCause (H.shown shelf.old).faults (H.shown shelf.new).faults result }
+    ensures files { SameFiles (H.shown shelf.old) (H.shown shelf.new) }
+    ensures fits { IfOk result (λ k. k ≤ length buf.old) }
+    ensures fills { IsTrue (H.shown shelf.old).tells → IfOk result (λ k. Fills k buf.old buf.new (H.shown shelf.old) (H.shown shelf.new)) }
+    ensures fails { IsTrue (H.shown shelf.old).tells → OnErr result (FailsToFill buf.old (H.shown shelf.old) (H.shown shelf.new)) }
+{
+    let mut done = 0;
+    while done < buf.len() {
+        let count = shelf.read(&mut buf[done..])?;
+        if count == 0 {
+            return Ok(done);
+        }
+        done += count;
+    }
+    Ok(done)
+}
+
+/// Reads a file, up to its first 65,537 octets.
+pub fn read_plan_file<H: Shelf>(
+    alloc: Global,
+    shelf: &mut H,
+    name: &str,
+) -> Result<Vec<u8>, FileError>
+    ensures files { SameFiles (H.shown shelf.old) (H.shown shelf.new) }
+    ensures reads { Counts (IsErrOf result FileError.Fault) (H.shown shelf.old).faults (H.shown shelf.new).faults }
+    ensures octets { IsTrue (H.shown shelf.old).tells → IfOk result (λ octets. IsPlanFile name.now (H.shown shelf.old).held octets.items) }
+    ensures fault { IsTrue (H.shown shelf.old).tells → IsErrOf result FileError.Fault → FailsAtFile name.now (H.shown shelf.old) (H.shown shelf.new) }
+{
+    let mut octets = vec![in alloc; 0u8; PLAN_LIMIT]?;
+    shelf.select(name)?;
+    let count = fill(shelf, &mut octets)?;
+    octets.truncate(count);
+    Ok(octets)
+}
