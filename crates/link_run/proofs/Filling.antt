@@ -21,12 +21,12 @@ fills_none buffer shelf = record {
 part_filled : (done : ℕ) (buffer part : List ℕ) → done ≤ length buffer → put_mid done (length buffer - done) buffer part ≡ take done buffer ++ part
 part_filled done buffer part within =
     ap (λ rest. take done buffer ++ (part ++ rest)) (drop_all (length buffer - done) (drop done buffer) (omega (arith, length-drop done buffer)))
-      ∙ ap (λ ending. take done buffer ++ ending) (append-nil part)
+    ∙ ap (λ ending. take done buffer ++ ending) (append-nil part)
 
 module _ (done k : ℕ) (start buffer part : List ℕ) (first now next : Shown) where
   -- the next k octets, behind those that are filled
   pub fills_more : FillsTo done start buffer first now → length buffer ≡ length start → done ≤ length buffer → k ≤ length buffer - done
-    → Takes k (drop done buffer) part now next → FillsTo (done + k) start (put_mid done (length buffer - done) buffer part) first next
+      → Takes k (drop done buffer) part now next → FillsTo (done + k) start (put_mid done (length buffer - done) buffer part) first next
   fills_more filled same within fits takes =
       let taken : length (take done first.left) ≡ done = length-take-le done first.left filled.within in
       let front : take done buffer ≡ take done first.left = ap (take done) filled.buffer ∙ take_at (take done first.left) (drop done start) done taken in
@@ -36,10 +36,10 @@ module _ (done k : ℕ) (start buffer part : List ℕ) (first now next : Shown) 
         within = omega (arith, takes.within, ap length left_now, length-drop done first.left, filled.within);
         fits = omega arith;
         buffer =
-          part_filled done buffer part within
+            part_filled done buffer part within
             ∙ ap (λ xs. xs ++ part) front
             ∙ ap (λ xs. take done first.left ++ xs) (takes.buffer ∙ ap (λ left. take k left ++ drop k (drop done buffer)) left_now
-              ∙ ap (λ xs. take k (drop done first.left) ++ drop k xs) rest)
+            ∙ ap (λ xs. take k (drop done first.left) ++ drop k xs) rest)
             ∙ sym (append_assoc (take done first.left) (take k (drop done first.left)) (drop k (drop done start)))
             ∙ ap (λ xs. xs ++ drop k (drop done start)) (sym (take-add done k first.left))
             ∙ ap (λ xs. take (done + k) first.left ++ xs) (drop-drop k done start);
@@ -51,7 +51,7 @@ module _ (done k : ℕ) (start buffer part : List ℕ) (first now next : Shown) 
 pub part_length : (done : ℕ) (buffer part : List ℕ) → done ≤ length buffer → length part ≡ length (drop done buffer) → length (put_mid done (length buffer - done) buffer part) ≡ length buffer
 part_length done buffer part within same =
     ap length (part_filled done buffer part within) ∙ length-append (take done buffer) part
-      ∙ omega (arith, length-take-le done buffer within, length-drop done buffer)
+    ∙ omega (arith, length-take-le done buffer within, length-drop done buffer)
 
 -- files that stay over two calls stay over both
 pub files_stay : (first now next : Shown) → SameFiles first now → SameFiles now next → SameFiles first next

@@ -38,3 +38,7 @@ pub record FailsToFill (before : List ℕ) (old new : Shown) : Type 0 where
   pub taken : length old.left ≤ length new.left + length before
   pub chosen : new.chosen ≡ old.chosen
   pub failed : new.failed ≡ old.chosen
+
+-- The first k octets of the buffer are those of the file of this name, as far as they are read.
+abbrev pub Loads : List ℕ → Files → ℕ → List ℕ → Type 0
+Loads name held k buffer = IsPlanFile name held (take k buffer)

@@ -3,8 +3,8 @@ ghost use Rattle.std.specs.Prelude.{◌≡◌, ◌≤◌, length, IsTrue, IfOk, 
 ghost use Rattle.link_base.specs.Faults.{HasCause};
 ghost use Rattle.link_base.specs.Shelf.{SameFiles};
 ghost use Rattle.link_run.specs.Promises.{Counts};
-ghost use Rattle.link_run.specs.PlanFile.{IsPlanFile, FailsAtFile, Fills, FailsToFill};
-ghost use Rattle.link_run.specs.declared.plan_file.FileError.TheVariants.{Fault, Memory};
+ghost use Rattle.link_run.specs.PlanFile.{plan_limit, Loads, IsPlanFile, FailsAtFile, Fills, FailsToFill};
+ghost use Rattle.link_run.specs.declared.plan_file.FileError.TheVariants.{Memory};
 
 use link_base::{Failed, Shelf};
 use std::alloc::{AllocError, Global};
@@ -17,14 +17,6 @@ const PLAN_LIMIT: usize = 65_537;
 pub enum FileError {
     Fault,
     Memory,
-}
-
-impl From<Failed> for FileError {
-    ghost from_gives = { λ _ e. e ≡ Fault };
-
-    fn from(_: Failed) -> Self {
-        FileError::Fault
-    }
 }
 
 impl From<AllocError> for FileError {
@@ -54,6 +46,21 @@ fn fill<H: Shelf>(shelf: &mut H, buf: &mut [u8]) -> Result<usize, Failed>
     Ok(done)
 }
 
+// Selects a file and reads its first octets into the buffer, and answers how many.
+fn load<H: Shelf>(shelf: &mut H, name: &str, buf: &mut [u8]) -> Result<usize, Failed>
+    requires { length buf.old ≡ plan_limit }
+    ensures cause { HasCause (H.shown shelf.old).faults (H.shown shelf.new).faults result }
+    ensures files { SameFiles (H.shown shelf.old) (H.shown shelf.new) }
+    ensures fits { IfOk result (λ k. k ≤ length buf.old) }
+    ensures loads { IsTrue (H.shown shelf.old).tells → IfOk result (λ k. Loads name.now (H.shown shelf.old).held k buf.new) }
+    ensures fails { IsTrue (H.shown shelf.old).tells → OnErr result (FailsAtFile name.now (H.shown shelf.old) (H.shown shelf.new)) }
+{
+    if let Err(failed) = shelf.select(name) {
+        return Err(failed);
+    }
+    fill(shelf, buf)
+}
+
 /// Reads a file, up to its first 65,537 octets.
 pub fn read_plan_file<H: Shelf>(
     alloc: Global,
@@ -66,8 +73,11 @@ pub fn read_plan_file<H: Shelf>(
     ensures fault { IsTrue (H.shown shelf.old).tells → IsErrOf result FileError.Fault → FailsAtFile name.now (H.shown shelf.old) (H.shown shelf.new) }
 {
     let mut octets = vec![in alloc; 0u8; PLAN_LIMIT]?;
-    shelf.select(name)?;
-    let count = fill(shelf, &mut octets)?;
-    octets.truncate(count);
-    Ok(octets)
+    match load(shelf, name, octets.as_mut_slice()) {
+        Ok(count) => {
+            octets.truncate(count);
+            Ok(octets)
+        }
+        Err(Failed) => Err(FileError::Fault),
+    }
 }

@@ -18,5 +18,5 @@ loop-done-preserved g c =
       files = files_stay _ _ _ so_far.files read.files;
       count = read.cause.by_result ∙ so_far.count;
       filled = λ told. fills_more done c.in_ok-count.count c.args.buf.now buffer c.read.new.buf _ _ _
-        (so_far.filled told) so_far.longer so_far.within room (read.takes (subst IsTrue (sym so_far.files.tells) told));
+          (so_far.filled told) so_far.longer so_far.within room (read.takes (subst IsTrue (sym so_far.files.tells) told));
     }

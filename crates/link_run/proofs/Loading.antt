@@ -1,0 +1,76 @@
+-- A file that is selected and then read.
+use Rattle.std.proofs.Common.{IsTrue, ◌≡◌, ◌+◌, ◌≤◌, ◌<◌, ◌⊎◌, inl, inr, ◌++◌, [], ℕ, List, Bool, true, false, length, take, drop, length-append, arith, refl, sym, ap, subst, ◌∙◌, Option, Some, None, append-nil, cond}
+use Rattle.std.specs.Prelude.{is_some, if◌then◌else◌}
+use Rattle.std.specs.FinMap.{get, contains_key}
+use Rattle.std.proofs.lemmas.Bool.{cases_lt}
+use Rattle.std.proofs.lemmas.List.{drop_all, take_at, take_all, take-append-drop, length-take-le}
+use Rattle.link_base.specs.Shelf.{Files, Shown, SameFiles, Opens, FailsToOpen, held_name}
+use Rattle.link_base.specs.Faults.{Rose}
+use Rattle.link_run.specs.Promises.{Counts}
+use Rattle.link_run.specs.PlanFile.{plan_limit, IsPlanFile, Loads, FailsAtFile, Fills, FailsToFill}
+
+-- a name is that of a file, or of none
+named : (name : List ℕ) (found : Option (List ℕ)) → ((if is_some found then Some name else None) ≡ Some name) ⊎ (((if is_some found then Some name else None) ≡ None) × (found ≡ None))
+named name None = inr (refl, refl)
+named name (Some octets) = inl refl
+
+pub select_fails : (name : List ℕ) (old new : Shown) → FailsToOpen name old new → FailsAtFile name old new
+select_fails name old new fails = record {
+  chosen = inr fails.chosen;
+  failed = elim (named name (get old.held name)) [
+    | inl held ↦ inl (fails.failed ∙ held)
+    | inr none ↦ inr (fails.failed ∙ none.0, none.1)
+  ];
+  taken = λ whole found chosen. absurd (let none = fails.chosen in cc);
+}
+
+pub read_fails : (name buffer : List ℕ) (old mid new : Shown) → length buffer ≡ plan_limit → Opens name old mid → FailsToFill buffer mid new → FailsAtFile name old new
+read_fails name buffer old mid new size opens fails = record {
+  chosen = inl (fails.chosen ∙ sym fails.failed);
+  failed = inl (fails.failed ∙ opens.chosen);
+  taken = λ whole found chosen.
+      let same : whole ≡ mid.left = let left = opens.left in cc in
+      omega (arith, ap length same, fails.taken, size);
+}
+
+pub loads : (name before after : List ℕ) (k : ℕ) (old mid new : Shown) → length before ≡ plan_limit → Opens name old mid → Fills k before after mid new → Loads name old.held k after
+loads name before after k old mid new size opens fills = record {
+  whole = mid.left;
+  held_here = opens.left;
+  front =
+      ap (take k) fills.front.buffer
+      ∙ take_at (take k mid.left) (drop k before) k (length-take-le k mid.left fills.front.within)
+      ∙ elim (cases_lt k plan_limit) [
+        | inl short ↦
+            let none_left : drop k mid.left ≡ [] = sym fills.front.left ∙ fills.end (omega (arith, size)) in
+            let all : take k mid.left ≡ mid.left = sym (append-nil (take k mid.left)) ∙ ap (λ rest. take k mid.left ++ rest) (sym none_left) ∙ take-append-drop k mid.left in
+            all ∙ sym (take_all plan_limit mid.left (omega (arith, length-take-le k mid.left fills.front.within, ap length all)))
+        | inr full ↦ let same : k ≡ plan_limit = omega (arith, size, fills.front.fits) in ap (λ n. take n mid.left) same
+      ];
+}
+
+-- a vector is cut to its first octets after all of it was lent and given back
+pub cut_to : (count n : ℕ) (written items : List ℕ) → length written ≡ length items → n ≡ length items
+    → take count (take n (written ++ drop (length written) items)) ≡ take count written
+cut_to count n written items same size =
+    ap (λ rest. take count (take n (written ++ rest))) (drop_all (length written) items (omega (arith, same)))
+    ∙ ap (λ all. take count (take n all)) (append-nil written)
+    ∙ ap (take count) (take_all n written (omega (arith, same, size)))
+
+-- what a count does over a call that selects or reads
+pub counted_ok : (failed : Type 0) (before now : ℕ) → ¬ failed → now ≡ before → Counts failed before now
+counted_ok failed before now not_failed same = record {
+  never_falls = omega (arith, same);
+  rose = λ h. absurd (not_failed h);
+  stays = λ h. same;
+}
+
+pub counted_err : (failed : Type 0) (before now : ℕ) → failed → before ≤ now → Rose before now → Counts failed before now
+counted_err failed before now fails never_falls rose = record {
+  never_falls = never_falls;
+  rose = λ h. rose;
+  stays = λ h. absurd (h fails);
+}
+
+pub loaded : (name : List ℕ) (held : Files) (front octets : List ℕ) → octets ≡ front → IsPlanFile name held front → IsPlanFile name held octets
+loaded name held front octets same file = subst (IsPlanFile name held) (sym same) file
