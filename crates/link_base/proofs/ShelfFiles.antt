@@ -1,17 +1,15 @@
 -- The files of a shelf in memory, as the map from their names.
-use Rattle.std.proofs.Common.{◌≡◌, ◌≢◌, ◌+◌, ◌<◌, ◌⊎◌, ℕ, zero, suc, List, [], ◌∷◌, ◌++◌, Bool, true, false, cond, length, get_or, length-append, Option, Some, None, IfSome, IfNone, arith, refl, sym, ◌∙◌, ap, subst, add-one, Ordering}
-use Rattle.std.specs.Prelude.{Contains, IsSomeAnd, ◌≤◌, map, drop, is_some, unwrap_or, slice_get, slice_set, string_bytes, MatchOption, position}
-use Rattle.std.specs.List.{position_from}
+use Rattle.std.proofs.Common.{◌≡◌, ◌≢◌, ◌+◌, ◌<◌, ℕ, zero, suc, List, [], ◌∷◌, ◌++◌, Bool, true, false, cond, length, get_or, length-append, Option, Some, None, arith, refl, sym, ◌∙◌, ap, subst}
+use Rattle.std.specs.Prelude.{Contains, IsSomeAnd, ◌≤◌, map, drop, is_some, unwrap_or, slice_get, slice_set, string_bytes}
 use Rattle.std.specs.Option.{option_map}
 use Rattle.std.specs.Ordering.{nat_cmp, is_eq}
 use Rattle.std.specs.Str.{bytes_eq}
 use Rattle.std.specs.Cmp.Lexicographic.{slice_cmp, nat_list_cmp_total}
-use Rattle.std.specs.FinMap.{FinMap, find, get, insert, from_entries, get-from_entries, get-insert, same_map, slice_cmp-IsAntisymmetric, nat_cmp-IsAntisymmetric, from_entries_push}
+use Rattle.std.specs.FinMap.{find, get, insert, from_entries, get-from_entries, get-insert, same_map, slice_cmp-IsAntisymmetric, nat_cmp-IsAntisymmetric, from_entries_push}
 use Rattle.std.proofs.lemmas.Map.Text.{is_eq-slice_cmp}
 use Rattle.std.proofs.lemmas.Slice.Eq.{bytes_eq-Decides}
 use Rattle.std.proofs.lemmas.Bool.{false_from_ne_true, cond-false, cond-true}
 use Rattle.std.proofs.lemmas.List.{map-append, length-set}
-use Rattle.link_base.specs.Shelf.{Files}
 use Rattle.link_base.specs.MemShelf.{ShelfMemory, HasStop, entry_of, held_of, name_at, left_at, IsPlace, IsFirstNamed, KeepsNames}
 use Rattle.link_base.specs.declared.mem_shelf.File.{File}
 

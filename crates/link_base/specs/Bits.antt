@@ -1,4 +1,4 @@
--- Bits of an octet list. Bit 0 of an octet is its lowest bit.
+-- Bits of an octet list, where bit 0 of an octet is its lowest bit. This is the project's own.
 use Rattle.std.specs.Prelude.{ℕ, ◌/◌, ◌%◌, List, slice_index}
 use Rattle.std.specs.Int.{bit_at}
 

@@ -1,8 +1,6 @@
 -- What a shelf in memory keeps. This is the project's own.
 use Rattle.std.specs.Prelude.{◌↔◌, ◌+◌, ◌≡◌, ◌≢◌, ◌<◌, ◌≤◌, ℕ, zero, suc, List, [], ◌∷◌, map, length, take, drop, ◌++◌, true, Option, Some, None, Contains, string_bytes, unwrap_or, slice_get, refl}
 use Rattle.std.specs.Option.{option_map}
-use Rattle.std.specs.Ordering.{nat_cmp}
-use Rattle.std.specs.Cmp.Lexicographic.{slice_cmp}
 use Rattle.std.specs.FinMap.{from_entries, code}
 use Rattle.std.specs.Coded.{Coded, code_by, coded×, coded_ℕ, coded_list, coded_option}
 use Rattle.link_base.specs.Shelf.{Files, Shown}

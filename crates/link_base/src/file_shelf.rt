@@ -1,5 +1,6 @@
 // The files of the system: the trusted edge, of which no content is told.
-ghost use Rattle.std.specs.Prelude.{◌≤◌, false, None, []};
+ghost use Rattle.std.specs.Prelude.{◌≡◌, ◌≤◌, false, None, []};
+ghost use Rattle.std.specs.Option.{option_copied};
 ghost use Rattle.std.specs.FinMap.{empty};
 ghost use Rattle.link_base.specs.Faults.{Rose};
 
@@ -17,7 +18,11 @@ pub struct FileShelf<'a> {
 }
 
 impl<'a> FileShelf<'a> {
-    pub fn new(rt: &'a HostRuntime) -> FileShelf<'a> {
+    /// No file is selected, and none has failed.
+    pub fn new(rt: &'a HostRuntime) -> FileShelf<'a>
+        ensures faults { result.faults ≡ 0 }
+        ensures error { result.error ≡ None }
+    {
         FileShelf {
             rt,
             file: None,
@@ -27,7 +32,9 @@ impl<'a> FileShelf<'a> {
     }
 
     /// What the system said of the last failure, for people to read.
-    pub fn error(&self) -> Option<&io::Error> {
+    pub fn error(&self) -> Option<&io::Error>
+        ensures { option_copied result ≡ self.now.error }
+    {
         self.error.as_ref()
     }
 

@@ -202,6 +202,7 @@ impl Shelf for MemShelf {
         ensures opens { OnOk result (IsTrue true → Opens name.now (shelf_shown self.old) (shelf_shown self.new)) }
         ensures fails { OnErr result (IsTrue true → FailsToOpen name.now (shelf_shown self.old) (shelf_shown self.new)) }
         ensures unknown { IsErr result ↔ (get self.old.held name.now ≡ None) }
+        ensures position { self.new.position ≡ 0 }
         ensures stops { self.new.stops ≡ self.old.stops }
         ensures piece { self.new.piece ≡ self.old.piece }
     {
@@ -232,6 +233,7 @@ impl Shelf for MemShelf {
         ensures stopped { IsErr result ↔ ((0 < length buf.old) × IsSomeAnd self.old.chosen (λ name. HasStop self.old name self.old.position)) }
         ensures passes_none { IfOk result (λ k. (name : List ℕ) (offset : ℕ) → self.old.chosen ≡ Some name → self.old.position < offset → HasStop self.old name offset → self.old.position + k ≤ offset) }
         ensures pieces { IfOk result (λ k. (k ≤ self.old.piece) × (self.new.position ≡ self.old.position + k)) }
+        ensures stays { OnErr result (self.new.position ≡ self.old.position) }
         ensures stops { self.new.stops ≡ self.old.stops }
         ensures piece { self.new.piece ≡ self.old.piece }
     {

@@ -12,7 +12,10 @@ pub struct StdSink<'a> {
 }
 
 impl<'a> StdSink<'a> {
-    pub fn new(rt: &'a HostRuntime) -> StdSink<'a> {
+    /// The standard output of this program, with no failure so far.
+    pub fn new(rt: &'a HostRuntime) -> StdSink<'a>
+        ensures { result.faults ≡ 0 }
+    {
         StdSink { rt, faults: 0 }
     }
 }

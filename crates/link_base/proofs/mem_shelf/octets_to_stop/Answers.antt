@@ -1,5 +1,5 @@
-use Rattle.std.proofs.Common.{map, take, subst, sym}
-use Rattle.link_base.specs.MemShelf.{stop_of, IsFreeRun}
+use Rattle.std.proofs.Common.{map, take}
+use Rattle.link_base.specs.MemShelf.{stop_of}
 use Rattle.link_base.proofs.Stops.{one_more}
 use Rattle.link_base.proofs.mem_shelf.octets_to_stop.Goals as goal
 

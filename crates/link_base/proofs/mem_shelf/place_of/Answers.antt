@@ -1,6 +1,6 @@
-use Rattle.std.proofs.Common.{arith, ◌≡◌, ◌∙◌, sym, ap, subst}
+use Rattle.std.proofs.Common.{arith, ◌∙◌, sym}
 use Rattle.std.proofs.lemmas.Slice.Eq.{bytes_eq-Decides}
-use Rattle.link_base.proofs.ShelfFiles.{name_is, NoneNamed, first_from, get_none}
+use Rattle.link_base.proofs.ShelfFiles.{name_is, first_from, get_none}
 use Rattle.link_base.proofs.mem_shelf.place_of.Goals as goal
 
 pub returns-then-eq-clause-found : goal.returns-then-eq-clause-found

@@ -1,6 +1,6 @@
-use Rattle.std.proofs.Common.{arith, ◌≡◌, ◌∙◌, ap, sym, subst}
+use Rattle.std.proofs.Common.{arith, ◌∙◌, ap, sym, subst}
 use Rattle.std.specs.FinMap.{insert}
-use Rattle.link_base.specs.MemShelf.{IsFirstNamed, KeepsNames, held_of}
+use Rattle.link_base.specs.MemShelf.{KeepsNames, held_of}
 use Rattle.link_base.proofs.ShelfFiles.{first_within, name_of_first, held_replaced, held_pushed, keeps_replaced, keeps_pushed}
 use Rattle.link_base.proofs.mem_shelf.put.Goals as goal
 

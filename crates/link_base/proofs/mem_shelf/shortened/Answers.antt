@@ -1,4 +1,4 @@
-use Rattle.std.proofs.Common.{◌∙◌, inl, inr, sym, subst, string_bytes}
+use Rattle.std.proofs.Common.{◌∙◌, inl, inr, sym, string_bytes}
 use Rattle.link_base.proofs.Stops.{one_passed, one_ahead, same_stop_name, names_differ, names_same}
 use Rattle.link_base.proofs.mem_shelf.shortened.Goals as goal
 

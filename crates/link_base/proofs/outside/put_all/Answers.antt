@@ -1,4 +1,4 @@
-use Rattle.std.proofs.Common.{arith, ◌≡◌, ◌+◌, ◌≤◌, take, length, length-drop, drop, ◌∙◌}
+use Rattle.std.proofs.Common.{arith, length-drop, ◌∙◌}
 use Rattle.std.proofs.lemmas.List.{take_rest}
 use Rattle.link_base.proofs.Appended.{appends_more}
 use Rattle.link_base.proofs.outside.put_all.Goals as goal

@@ -1,4 +1,4 @@
-use Rattle.std.proofs.Common.{arith, ◌≡◌, ◌∙◌, sym, ap, refl, Some, List, ℕ}
+use Rattle.std.proofs.Common.{arith, ◌≡◌, ◌∙◌, sym, ap, refl, Some}
 use Rattle.std.specs.FinMap.{get}
 use Rattle.link_base.specs.Shelf.{Files}
 use Rattle.link_base.specs.MemShelf.{ShelfMemory, left_at}
