@@ -17,9 +17,11 @@ use Rattle.link_base.specs.declared.mem_shelf.File.{File}
 ties : (p q : List ℕ) → p ≡ q → is_eq (slice_cmp nat_cmp p q) ≡ true
 ties p q same = is_eq-slice_cmp p q ∙ (bytes_eq-Decides p q).1 same
 
+-- different names don't tie
 differs : (p q : List ℕ) → p ≢ q → is_eq (slice_cmp nat_cmp p q) ≡ false
 differs p q other = is_eq-slice_cmp p q ∙ false_from_ne_true (bytes_eq p q) (λ h. other ((bytes_eq-Decides p q).0 h))
 
+-- names that tie are one
 same_name : (p q : List ℕ) → is_eq (slice_cmp nat_cmp p q) ≡ true → p ≡ q
 same_name p q h = (bytes_eq-Decides p q).0 (sym (is_eq-slice_cmp p q) ∙ h)
 

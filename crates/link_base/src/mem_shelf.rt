@@ -206,21 +206,15 @@ impl Shelf for MemShelf {
         ensures stops { self.new.stops ≡ self.old.stops }
         ensures piece { self.new.piece ≡ self.old.piece }
     {
-        match place_of(&self.files, name) {
-            Some(place) => {
-                self.chosen = Some(place);
-                self.failed = None;
-                self.position = 0;
-                Ok(())
-            }
-            None => {
-                self.chosen = None;
-                self.failed = None;
-                self.position = 0;
-                self.faults = self.faults.saturating_add(1);
-                Err(Failed)
-            }
-        }
+        self.chosen = None;
+        self.failed = None;
+        self.position = 0;
+        let Some(place) = place_of(&self.files, name) else {
+            self.faults = self.faults.saturating_add(1);
+            return Err(Failed);
+        };
+        self.chosen = Some(place);
+        Ok(())
     }
 
     fn read(&mut self, buf: &mut [u8]) -> Result<usize, Failed>

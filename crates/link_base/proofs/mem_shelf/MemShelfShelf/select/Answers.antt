@@ -5,13 +5,13 @@ use Rattle.link_base.specs.MemShelf.{ShelfMemory, left_at}
 use Rattle.link_base.proofs.ShelfFiles.{first_within, left_at_first, name_at_first}
 use Rattle.link_base.proofs.mem_shelf.MemShelfShelf.select.Goals as goal
 
-pub invariant_of-self : goal.invariant_of-self
-invariant_of-self c =
+pub invariant_of-self-2 : goal.invariant_of-self-2
+invariant_of-self-2 c =
     let found = rw c.deref.ensures.value at c.in-Some.ensures.found in
     (c.self.invariant.0, (first_within c.args.name.now c.self.inside.files.items c.in-Some.place found, tt, omega arith))
 
-pub returns-in-Some-clause-opens : goal.returns-in-Some-clause-opens
-returns-in-Some-clause-opens c = λ told.
+pub returns-clause-opens : goal.returns-clause-opens
+returns-clause-opens c = λ told.
     let found = rw c.deref.ensures.value at c.in-Some.ensures.found in
     let held = ap (λ (s : ShelfMemory). s.held) c.self.view_is in
     record {
@@ -20,8 +20,8 @@ returns-in-Some-clause-opens c = λ told.
       failed = refl;
     }
 
-pub returns-in-Some-clause-unknown : goal.returns-in-Some-clause-unknown
-returns-in-Some-clause-unknown c =
+pub returns-clause-unknown : goal.returns-clause-unknown
+returns-clause-unknown c =
     let found = rw c.deref.ensures.value at c.in-Some.ensures.found in
     let held = ap (λ (s : ShelfMemory). s.held) c.self.view_is in
     let known : get c.args.self.now.held c.args.name.now ≡ Some (left_at c.self.inside.files.items (Some c.in-Some.place) 0) =
