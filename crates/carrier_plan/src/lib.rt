@@ -11,3 +11,6 @@ pub use carrier_list::CarrierList;
 pub use fault::{Field, Part, PlanText, ReadError, Spot};
 pub use plan::{Carrier, Method, Mode, Plan};
 pub use reading::read;
+
+#[cfg(test)]
+mod tests;

@@ -1,0 +1,117 @@
+use super::*;
+use std::alloc::{AllocError, Global};
+use std::test::Fail;
+
+const PLAN: &str = "version = 1\noption = 1\nmode = \"bytes\"\nplayout = 2\n[[carrier]]\nmethod = 1\ns = 1\nk = 1\nm = 8\nstart = 0\nsize = 16\n";
+
+// Behind a good top.
+const TOP: &str = "version = 1\noption = 1\nmode = \"aware\"\nplayout = 0\n";
+
+// The line that tells of the fault.
+fn told(alloc: Global, octets: &[u8]) -> Result<String, AllocError> {
+    match read(alloc, octets) {
+        Ok(_) => String::from_str(alloc, "a plan"),
+        Err(error) => error.to_string(alloc),
+    }
+}
+
+#[test]
+fn a_plan_is_read(rt: HostRuntime) -> Result<(), Fail> {
+    let plan = read(rt.alloc(), PLAN.as_bytes())?;
+    assert_eq!(rt; plan.option, 1);
+    assert_eq!(rt; plan.mode, Mode::Bytes);
+    assert_eq!(rt; plan.playout, 2);
+    assert_eq!(rt; plan.carriers.len(), 1);
+    let carrier = Carrier {
+        method: Method::Sample,
+        s: 1,
+        k: 1,
+        m: 8,
+        start: 0,
+        size: 16,
+    };
+    assert_eq!(rt; *plan.carriers.at(0), carrier);
+    assert!(rt; !plan.carriers.is_empty());
+    assert_eq!(rt; plan.carriers.as_slice().len(), 1);
+    Ok(())
+}
+
+#[test]
+fn a_plan_has_at_most_65536_octets(rt: HostRuntime) -> Result<(), Fail> {
+    let mut octets = PLAN.as_bytes().to_vec(rt.alloc())?;
+    octets.push(b'#')?;
+    for _ in octets.len()..65_536 {
+        octets.push(b'-')?;
+    }
+    assert_eq!(rt; octets.len(), 65_536);
+    assert_eq!(rt; told(rt.alloc(), &octets)?.as_str(), "a plan");
+    octets.push(b'-')?;
+    assert_eq!(rt; told(rt.alloc(), &octets)?.as_str(), "plan long");
+    // The length is tried first, and then whether the octets are UTF-8.
+    octets.push(0xff)?;
+    assert_eq!(rt; told(rt.alloc(), &octets)?.as_str(), "plan long");
+    assert_eq!(rt; told(rt.alloc(), b"version = \xff")?.as_str(), "plan utf8");
+    Ok(())
+}
+
+#[test]
+fn the_first_fault_of_the_top_is_named(rt: HostRuntime) -> Result<(), Fail> {
+    for (text, line) in [
+        ("version", "plan toml"),
+        ("version = 1\nversion = 1\n", "plan toml"),
+        ("", "plan missing version"),
+        ("rate = 1\nmode = 7\n", "plan missing version"),
+        ("version = 1.0\n", "plan kind version"),
+        ("version = 2\n", "plan value version"),
+        ("version = 1\n", "plan missing option"),
+        ("version = 1\noption = \"1\"\n", "plan kind option"),
+        ("version = 1\noption = -1\n", "plan value option"),
+        ("version = 1\noption = 4294967296\n", "plan value option"),
+        ("version = 1\noption = 4294967295\n", "plan missing mode"),
+        ("version = 1\noption = 1\nmode = 5\n", "plan kind mode"),
+        ("version = 1\noption = 1\nmode = \"symbols\"\n", "plan value mode"),
+        ("version = 1\noption = 1\nmode = \"tunnel\"\n", "plan missing playout"),
+        (
+            "version = 1\noption = 1\nmode = \"aware\"\nplayout = true\n",
+            "plan kind playout",
+        ),
+    ] {
+        assert_eq!(rt; told(rt.alloc(), text.as_bytes())?.as_str(), line, "at {text}");
+    }
+    Ok(())
+}
+
+#[test]
+fn the_first_fault_behind_a_good_top_is_named(rt: HostRuntime) -> Result<(), Fail> {
+    for (rest, line) in [
+        ("", "a plan"),
+        ("carrier = []\n", "a plan"),
+        ("flow = []\n", "plan extra top"),
+        ("carrier = 5\nrate = 1\n", "plan extra top"),
+        ("carrier = 5\n", "plan kind carrier"),
+        ("carrier = [{}, 5]\n", "plan missing carrier 0 method"),
+        ("[[carrier]]\nmethod = \"1\"\n", "plan kind carrier 0 method"),
+        ("[[carrier]]\nmethod = 2\n", "plan value carrier 0 method"),
+        ("[[carrier]]\nmethod = 3\ns = \"1\"\n", "plan kind carrier 0 s"),
+        (
+            "[[carrier]]\nmethod = 3\ns = 1\nk = 1\nm = 8\nstart = 0\n",
+            "plan missing carrier 0 size",
+        ),
+        (
+            "[[carrier]]\nmethod = 3\ns = 1\nk = 1\nm = 8\nstart = 0\nsize = -1\nrate = 1\n",
+            "plan value carrier 0 size",
+        ),
+        (
+            "[[carrier]]\nmethod = 3\ns = 1\nk = 1\nm = 8\nstart = 0\nsize = 16\nrate = 1\n",
+            "plan extra carrier 0",
+        ),
+        (
+            "carrier = [{method = 3, s = 1, k = 1, m = 8, start = 0, size = 16}, 5]\n",
+            "plan kind carrier 1 carrier",
+        ),
+    ] {
+        let text = format!(in rt.alloc(); "{TOP}{rest}")?;
+        assert_eq!(rt; told(rt.alloc(), text.as_bytes())?.as_str(), line, "at {rest}");
+    }
+    Ok(())
+}
