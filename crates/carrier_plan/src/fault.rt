@@ -1,5 +1,5 @@
 // Why a plan cannot be read.
-ghost use Rattle.std.specs.Prelude.{◌≡◌};
+ghost use Rattle.std.specs.Prelude.{◌≡◌, ◌≤◌, length};
 ghost use Rattle.carrier_plan.specs.Keys.{key_of};
 
 use link_base::NoMemory;
@@ -33,7 +33,8 @@ pub enum Field {
 impl Field {
     /// The key as it stands in a plan.
     pub fn key(self) -> &'static str
-        ensures { result.now ≡ key_of self }
+        ensures key { result.now ≡ key_of self }
+        ensures len { length result.now ≤ 7 }
     {
         match self {
             Field::Version => "version",

@@ -1,48 +1,92 @@
 // The line that tells of a fault in a plan.
-ghost use Rattle.std.specs.Prelude.{Some};
+ghost use Rattle.std.specs.Prelude.{◌≡◌, ◌+◌, ◌≤◌, ◌++◌, length, codes, decimal, Some};
 ghost use Rattle.carrier_plan.specs.Printed.{part_text, spot_text, plan_text_line};
 
 use crate::fault::{Part, PlanText, Spot};
+use arrayvec::ArrayString;
+use itoa::Buffer;
 use std::error::Error;
 use std::fmt;
 
-impl fmt::Display for Part {
-    ghost output = { λ part. Some (part_text part) };
+// A line has at most 39 octets, and the digits are reckoned at 40.
+type Line = ArrayString<80>;
 
-    fn fmt<W: fmt::Write>(&self, f: &mut fmt::Formatter<W>) -> fmt::Result {
+impl PlanText {
+    /// The line that tells of the fault, without its line feed, as `plan missing carrier 0 size`.
+    pub fn line(self) -> ArrayString<80>
+        ensures { result.bytes ≡ plan_text_line self }
+    {
         match self {
-            Part::Top => f.write_str("top"),
-            Part::Carrier(i) => write!(f, "carrier {i}"),
+            PlanText::Long => line_of("plan long"),
+            PlanText::Utf8 => line_of("plan utf8"),
+            PlanText::Toml => line_of("plan toml"),
+            PlanText::Missing(spot) => spot_line("plan missing ", spot),
+            PlanText::Kind(spot) => spot_line("plan kind ", spot),
+            PlanText::Value(spot) => spot_line("plan value ", spot),
+            PlanText::Extra(part) => part_line("plan extra ", part),
         }
     }
 }
 
-impl fmt::Display for Spot {
-    ghost output = { λ spot. Some (spot_text spot) };
+fn line_of(text: &str) -> Line
+    requires { length text.now ≤ 20 }
+    ensures { result.bytes ≡ text.now }
+{
+    let mut line = Line::new();
+    line.push_str(text);
+    line
+}
 
-    fn fmt<W: fmt::Write>(&self, f: &mut fmt::Formatter<W>) -> fmt::Result {
-        let key = self.field.key();
-        match self.part {
-            Part::Top => f.write_str(key),
-            Part::Carrier(i) => write!(f, "carrier {i} {key}"),
+fn carrier_line(front: &str, i: u32) -> Line
+    requires { length front.now ≤ 20 }
+    ensures text { result.bytes ≡ front.now ++ codes "carrier " ++ decimal i }
+    ensures len { length result.bytes ≤ 68 }
+{
+    let mut line = line_of(front);
+    line.push_str("carrier ");
+    line.push_str(Buffer::new().format(i));
+    line
+}
+
+fn part_line(front: &str, part: Part) -> Line
+    requires { length front.now ≤ 20 }
+    ensures { result.bytes ≡ front.now ++ part_text part }
+{
+    match part {
+        Part::Top => {
+            let mut line = line_of(front);
+            line.push_str("top");
+            line
+        }
+        Part::Carrier(i) => carrier_line(front, i),
+    }
+}
+
+fn spot_line(front: &str, spot: Spot) -> Line
+    requires { length front.now ≤ 20 }
+    ensures { result.bytes ≡ front.now ++ spot_text spot }
+{
+    let key = spot.field.key();
+    match spot.part {
+        Part::Top => {
+            let mut line = line_of(front);
+            line.push_str(key);
+            line
+        }
+        Part::Carrier(i) => {
+            let mut line = carrier_line(front, i);
+            line.push_str(" ");
+            line.push_str(key);
+            line
         }
     }
 }
 
-/// The line without its line feed, as `plan missing carrier 0 size`.
 impl fmt::Display for PlanText {
     ghost output = { λ fault. Some (plan_text_line fault) };
 
     fn fmt<W: fmt::Write>(&self, f: &mut fmt::Formatter<W>) -> fmt::Result {
-        match self {
-            PlanText::Long => f.write_str("plan long"),
-            PlanText::Utf8 => f.write_str("plan utf8"),
-            PlanText::Toml => f.write_str("plan toml"),
-            PlanText::Missing(spot) => write!(f, "plan missing {spot}"),
-            PlanText::Kind(spot) => write!(f, "plan kind {spot}"),
-            PlanText::Value(spot) => write!(f, "plan value {spot}"),
-            PlanText::Extra(part) => write!(f, "plan extra {part}"),
-        }
+        f.write_str(self.line().as_str())
     }
 }
 

@@ -2,4 +2,4 @@ use Rattle.toml.proofs.Views.{table_get}
 use Rattle.carrier_plan.proofs.reading.member.Goals as goal
 
 pub returns : goal.returns
-returns c = rw (← c.key.ensures) (table_get c.get.result c.key.result.now c.args.table.now.entries c.get.ensures.value)
+returns c = rw (← c.key.ensures.key) (table_get c.get.result c.key.result.now c.args.table.now.entries c.get.ensures.value)
