@@ -2,7 +2,8 @@ use super::*;
 use std::alloc::{AllocError, Global};
 use std::test::Fail;
 
-const PLAN: &str = "version = 1\noption = 1\nmode = \"bytes\"\nplayout = 2\n[[carrier]]\nmethod = 1\ns = 1\nk = 1\nm = 8\nstart = 0\nsize = 16\n";
+const PLAN: &str =
+    "version = 1\noption = 1\nmode = \"bytes\"\nplayout = 2\n[[carrier]]\nmethod = 1\ns = 1\nk = 1\nm = 8\nstart = 0\nsize = 16\n";
 
 // Behind a good top.
 const TOP: &str = "version = 1\noption = 1\nmode = \"aware\"\nplayout = 0\n";
@@ -11,6 +12,7 @@ const TOP: &str = "version = 1\noption = 1\nmode = \"aware\"\nplayout = 0\n";
 fn told(alloc: Global, octets: &[u8]) -> Result<String, AllocError> {
     match read(alloc, octets) {
         Ok(_) => String::from_str(alloc, "a plan"),
+        Err(ReadError::Text(fault)) => String::from_str(alloc, fault.line().as_str()),
         Err(error) => error.to_string(alloc),
     }
 }
@@ -69,14 +71,24 @@ fn the_first_fault_of_the_top_is_named(rt: HostRuntime) -> Result<(), Fail> {
         ("version = 1\noption = 4294967296\n", "plan value option"),
         ("version = 1\noption = 4294967295\n", "plan missing mode"),
         ("version = 1\noption = 1\nmode = 5\n", "plan kind mode"),
-        ("version = 1\noption = 1\nmode = \"symbols\"\n", "plan value mode"),
-        ("version = 1\noption = 1\nmode = \"tunnel\"\n", "plan missing playout"),
+        (
+            "version = 1\noption = 1\nmode = \"symbols\"\n",
+            "plan value mode",
+        ),
+        (
+            "version = 1\noption = 1\nmode = \"tunnel\"\n",
+            "plan missing playout",
+        ),
         (
             "version = 1\noption = 1\nmode = \"aware\"\nplayout = true\n",
             "plan kind playout",
         ),
     ] {
-        assert_eq!(rt; told(rt.alloc(), text.as_bytes())?.as_str(), line, "at {text}");
+        assert_eq!(rt;
+            told(rt.alloc(), text.as_bytes())?.as_str(),
+            line,
+            "at {text}"
+        );
     }
     Ok(())
 }
@@ -90,9 +102,15 @@ fn the_first_fault_behind_a_good_top_is_named(rt: HostRuntime) -> Result<(), Fai
         ("carrier = 5\nrate = 1\n", "plan extra top"),
         ("carrier = 5\n", "plan kind carrier"),
         ("carrier = [{}, 5]\n", "plan missing carrier 0 method"),
-        ("[[carrier]]\nmethod = \"1\"\n", "plan kind carrier 0 method"),
+        (
+            "[[carrier]]\nmethod = \"1\"\n",
+            "plan kind carrier 0 method",
+        ),
         ("[[carrier]]\nmethod = 2\n", "plan value carrier 0 method"),
-        ("[[carrier]]\nmethod = 3\ns = \"1\"\n", "plan kind carrier 0 s"),
+        (
+            "[[carrier]]\nmethod = 3\ns = \"1\"\n",
+            "plan kind carrier 0 s",
+        ),
         (
             "[[carrier]]\nmethod = 3\ns = 1\nk = 1\nm = 8\nstart = 0\n",
             "plan missing carrier 0 size",
@@ -111,7 +129,11 @@ fn the_first_fault_behind_a_good_top_is_named(rt: HostRuntime) -> Result<(), Fai
         ),
     ] {
         let text = format!(in rt.alloc(); "{TOP}{rest}")?;
-        assert_eq!(rt; told(rt.alloc(), text.as_bytes())?.as_str(), line, "at {rest}");
+        assert_eq!(rt;
+            told(rt.alloc(), text.as_bytes())?.as_str(),
+            line,
+            "at {rest}"
+        );
     }
     Ok(())
 }
