@@ -20,7 +20,7 @@ first_at p r i n j h met is_number is_item =
       rule = r;
       numbered = sym is_number;
       fails = subst (λ k. FailsFirstAt p r k) (sym is_item) h;
-      before = subst (λ k. IsMetBelow p k) (sym is_number) met
+      before = subst (λ k. IsMetBelow p k) (sym is_number) met;
     }
 
 pub met_below_1 : (p : Plan) → IsMetBelow p 1

@@ -3,3 +3,5 @@ pub mod SampleRate
 pub mod Container
 pub mod Rules
 pub mod Run
+pub mod Verdict
+pub mod Laws

@@ -7,8 +7,8 @@ use Rattle.carrier_plan.specs.declared.plan.Carrier.{Carrier}
 abbrev pub IsCoprime : ℕ → ℕ → Type 0
 IsCoprime a b = (d : ℕ) → d ∣ a → d ∣ b → d ≡ 1
 
--- K frames divide the 38,400 of a span of 150 hyperframes, and S/K is in lowest terms.
--- The greatest K and the greatest rate are this project's own.
+-- Blocks of K basic frames fill a radio frame of 10 ms, which has 150 hyperframes of 256 basic frames, and S/K is in
+-- lowest terms. The greatest K and the greatest rate are this project's own.
 pub record HasSampleRate (c : Carrier) : Type 0 where
   pub divides : c.k ∣ 38_400
   pub short : c.k ≤ 96

@@ -1,13 +1,16 @@
 // A plan that meets the rules, and its numbers.
-ghost use Rattle.std.specs.Prelude.{All, Any, IfErr, IfOk, IsOk, length, ◌≡◌, ◌<◌, ◌≤◌, ◌↔◌};
+ghost use Rattle.std.specs.Prelude.{All, Any, IfErr, IfOk, IsOk, MatchResult, length, ◌≡◌, ◌<◌, ◌≤◌, ◌↔◌};
 ghost use Rattle.plan_checker.specs.WordSize.{word_size};
 ghost use Rattle.plan_checker.specs.Rules.{IsFirstFailure, IsGood};
+ghost use Rattle.plan_checker.specs.Verdict.{verdict_of};
+ghost use Rattle.plan_checker.specs.Verdict.Verdict.{Good, Fails};
 ghost use Rattle.plan_checker.specs.Run.{delay_of, longest_block};
 
 use crate::rules::{Failure, first_failure};
 use crate::word_size::octets_of_word;
 use carrier_plan::Plan;
 use std::marker::Model;
+use thiserror::Error;
 
 /// A plan that meets every rule.
 #[derive(Debug, Drop)]
@@ -27,7 +30,8 @@ impl Model for Checked {
 }
 
 /// A plan that fails a rule, with its first failure.
-#[derive(Debug, Drop)]
+#[derive(Debug, Drop, Error)]
+#[error("rule {rule} fails at {item}")]
 pub struct Refused {
     pub plan: Plan,
     /// The number of the rule.
@@ -42,6 +46,9 @@ pub fn check(plan: Plan) -> Result<Checked, Refused>
     ensures kept { IfOk result (λ checked. checked ≡ plan) }
     ensures handed_back { IfErr result (λ refused. refused.plan ≡ plan) }
     ensures first { IfErr result (λ refused. IsFirstFailure plan refused.rule refused.item) }
+    ensures computed { MatchResult result
+        (λ _. verdict_of plan ≡ Good)
+        (λ refused. verdict_of plan ≡ Fails refused.rule refused.item) }
 {
     match first_failure(&plan) {
         None => Ok(Checked { plan }),

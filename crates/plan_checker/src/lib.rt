@@ -3,11 +3,13 @@
 
 mod checked;
 mod container;
+mod laws;
 mod rules;
 mod sample_rate;
 mod word_size;
 
 pub use checked::{Checked, Refused, check};
+pub use laws::{bits_have_one_carrier, verdicts_are_determined};
 
 #[cfg(test)]
 mod tests;

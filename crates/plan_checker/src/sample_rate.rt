@@ -5,7 +5,8 @@ ghost use Rattle.plan_checker.specs.SampleRate.{HasSampleRate, HasSampleWidth, I
 
 use carrier_plan::Carrier;
 
-const FRAMES_OF_CYCLE: u32 = 38_400;
+// The basic frames of a radio frame of 10 ms.
+const FRAMES_OF_RADIO_FRAME: u32 = 38_400;
 
 fn greatest_common_divisor(a: u32, b: u32) -> u32
     ensures { IsGcd a b result }
@@ -26,18 +27,18 @@ fn is_coprime(a: u32, b: u32) -> bool
     greatest_common_divisor(a, b) == 1
 }
 
-// Whether blocks of `k` frames fill the cycle of 150 hyperframes.
-fn divides_cycle(k: u32) -> bool
+// Whether blocks of `k` basic frames fill a radio frame of 150 hyperframes.
+fn fills_radio_frame(k: u32) -> bool
     ensures { IsTrue result ↔ (k ∣ 38_400) }
 {
-    k != 0 && FRAMES_OF_CYCLE % k == 0
+    k != 0 && FRAMES_OF_RADIO_FRAME % k == 0
 }
 
 pub(crate) fn has_sample_rate(carrier: &Carrier) -> bool
     ensures { IsTrue result ↔ HasSampleRate carrier.now }
 {
     let Carrier { s, k, .. } = *carrier;
-    divides_cycle(k) && k <= 96 && 1 <= s && s <= 32 * k && is_coprime(s, k)
+    fills_radio_frame(k) && k <= 96 && (1..=32 * k).contains(&s) && is_coprime(s, k)
 }
 
 pub(crate) fn has_sample_width(carrier: &Carrier) -> bool

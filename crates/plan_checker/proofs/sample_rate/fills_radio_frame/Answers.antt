@@ -2,7 +2,7 @@ use Rattle.std.proofs.Common.{◌%◌, arith}
 use Rattle.std.proofs.lemmas.Bool.Decides.{Decides-eqb, Decides-like, nat_tests}
 use Rattle.std.proofs.lemmas.Nat.Gcd.{dvd_of_mod-eq-zero, mod-eq-zero_of_dvd}
 use Rattle.plan_checker.proofs.Divisors.{not_zero_from_dvd}
-use Rattle.plan_checker.proofs.sample_rate.divides_cycle.Goals as goal
+use Rattle.plan_checker.proofs.sample_rate.fills_radio_frame.Goals as goal
 
 pub returns-then-k-ne0 : goal.returns-then-k-ne0
 returns-then-k-ne0 c =
