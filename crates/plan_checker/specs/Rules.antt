@@ -8,12 +8,19 @@ use Rattle.plan_checker.specs.SampleRate.{HasSampleRate, HasSampleWidth}
 use Rattle.plan_checker.specs.Container.{HasPrescribedSize, LiesWithin, SharesNoBit}
 
 pub data Rule : Type 0 where
+  -- the line bit rate option is known
   LineOption : Rule
+  -- there are carriers, and not too many
   CarrierCount : Rule
+  -- a carrier's samples come at a rate that can be mapped
   SampleRate : Rule
+  -- its samples are neither too narrow nor too wide
   SampleWidth : Rule
+  -- its container is as long as its mapping method prescribes
   ContainerSize : Rule
+  -- its container ends within the IQ bits of a basic frame
   ContainerEnd : Rule
+  -- its container shares no bit with that of an earlier carrier
   SeparateBits : Rule
 
 -- the rules are tried in the order of their numbers
