@@ -1,0 +1,5 @@
+mod BitLemmas
+mod SpreadLemmas
+mod SignLemmas
+mod SampleLemmas
+mod OctetLemmas

@@ -1,0 +1,126 @@
+// One sample of an antenna-carrier, as plain numbers and with the range of its width.
+ghost use Rattle.std.specs.Prelude.{◌≡◌, ℕ, ◌*◌, ◌^◌, ◌<◌, ◌≤◌, ◌↔◌, IsTrue};
+ghost use Rattle.std.specs.Int.{bit_at};
+ghost use Rattle.std.specs.Option.{SomeIff};
+ghost use Rattle.sample_bits.specs.declared.iq.RawIq.{RawIq as Raw};
+ghost use Rattle.sample_bits.specs.Samples.{int_bit, sample_bit, FitsBits, IsWithin};
+
+use crate::interleaving::{gather, weave};
+use std::marker::Model;
+
+/// A sample as plain numbers, which no width bounds.
+#[derive(Clone, Copy, PartialEq, Eq, Debug)]
+pub struct RawIq {
+    pub i: i32,
+    pub q: i32,
+}
+
+/// A sample whose I and Q have M bits each, in two's complement. M is 4 to 20.
+#[derive(Clone, Copy, PartialEq, Eq, Debug)]
+pub struct Iq<const M: u32> {
+    i: i32,
+    q: i32,
+}
+
+impl<const M: u32> Model for Iq<M> {
+    ghost use Rattle.std.specs.Prelude.{◌≤◌};
+    ghost use Rattle.sample_bits.specs.declared.iq.RawIq.{RawIq as Raw};
+    ghost use Rattle.sample_bits.specs.Samples.{IsWithin};
+
+    ghost Value = { Raw };
+
+    ghost view = { λ s. record { i = s.i; q = s.q } };
+
+    ghost invariant = { λ s. (4 ≤ M) × (M ≤ 20) × IsWithin M (record { i = s.i; q = s.q }) };
+
+    ghost inverse = { λ v. record { i = v.i; q = v.q } };
+}
+
+impl<const M: u32> Iq<M> {
+    /// The sample, where both of its numbers have M bits.
+    pub fn narrow(raw: RawIq) -> Option<Self>
+        requires least { 4 ≤ M }
+        requires most { M ≤ 20 }
+        ensures { SomeIff result (IsWithin M raw) raw }
+    {
+        if fits(raw.i, M) && fits(raw.q, M) {
+            Some(Iq { i: raw.i, q: raw.q })
+        } else {
+            None
+        }
+    }
+
+    /// The sample as plain numbers.
+    pub fn wide(self) -> RawIq
+        ensures value { result ≡ self.entry }
+        ensures within { IsWithin M result }
+    {
+        RawIq {
+            i: self.i,
+            q: self.q,
+        }
+    }
+
+    /// The 2·M bits of the sample as a number: the bits of I and Q take turns from the lowest on, I first (CPRI
+    /// Specification V7.0, section 4.2.7.2).
+    pub fn interleave(self) -> u64
+        ensures bits { (k : ℕ) → k < 2 * M → bit_at result k ≡ sample_bit self.entry k }
+        ensures no_others { result < 2 ^ (2 * M) }
+    {
+        weave(low_bits(self.i, M), low_bits(self.q, M))
+    }
+
+    /// The sample that has these bits.
+    pub fn deinterleave(word: u64) -> Self
+        requires least { 4 ≤ M }
+        requires most { M ≤ 20 }
+        requires bits { word < 2 ^ (2 * M) }
+        ensures within { IsWithin M result }
+        ensures bits { (k : ℕ) → k < 2 * M → sample_bit result k ≡ bit_at word k }
+
+        // No other sample has them, so this undoes `interleave`.
+        ensures only { (s : Raw) → IsWithin M s
+            → ((k : ℕ) → k < 2 * M → sample_bit s k ≡ bit_at word k)
+            → s ≡ result }
+    {
+        Iq {
+            i: signed(gather(word), M),
+            q: signed(gather(word >> 1), M),
+        }
+    }
+}
+
+// The value has `width` bits.
+fn fits(value: i32, width: u32) -> bool
+    requires least { 1 ≤ width }
+    requires most { width ≤ 31 }
+    ensures { IsTrue result ↔ FitsBits width value }
+{
+    let limit = 1_i32 << (width - 1);
+    -limit <= value && value < limit
+}
+
+// The lowest bits of a value, as a number.
+fn low_bits(value: i32, width: u32) -> u64
+    requires { width ≤ 31 }
+    ensures bits { (j : ℕ) → j < width → bit_at result j ≡ int_bit value j }
+    ensures no_others { result < 2 ^ width }
+{
+    u64::from(value.cast_unsigned()) & ((1 << width) - 1)
+}
+
+// The value of `width` bits in two's complement.
+fn signed(bits: u64, width: u32) -> i32
+    requires least { 1 ≤ width }
+    requires most { width ≤ 30 }
+    requires within { bits < 2 ^ width }
+    ensures within { FitsBits width result }
+    ensures bits { (j : ℕ) → j < width → int_bit result j ≡ bit_at bits j }
+{
+    let magnitude = bits as i32;
+    if bits >> (width - 1) == 0 {
+        magnitude
+    } else {
+        magnitude - (1 << width)
+    }
+}
