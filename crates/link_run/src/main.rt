@@ -4,6 +4,7 @@
 mod form;
 mod plan_file;
 mod status;
+mod verdict;
 
 pub use status::{Status, code};
 
