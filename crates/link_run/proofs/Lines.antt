@@ -11,4 +11,4 @@ range_more a (suc n) = ap (λ xs. a ∷ xs) (range_more (a + 1) n ∙ ap (λ x. 
 pub one_more_line : (line : ℕ → List ℕ) (before : List ℕ) (n : ℕ) → (before ++ flat_map line (range_with_len 0 n)) ++ line n ≡ before ++ flat_map line (range_with_len 0 (n + 1))
 one_more_line line before n =
     flat_map_more line before (range_with_len 0 n) n
-      ∙ ap (λ xs. before ++ flat_map line xs) (ap (λ x. range_with_len 0 n ++ x ∷ []) (omega arith) ∙ sym (range_more 0 n) ∙ ap (range_with_len 0) (sym (add-one n)))
+    ∙ ap (λ xs. before ++ flat_map line xs) (ap (λ x. range_with_len 0 n ++ x ∷ []) (omega arith) ∙ sym (range_more 0 n) ∙ ap (range_with_len 0) (sym (add-one n)))

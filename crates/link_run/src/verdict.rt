@@ -4,13 +4,11 @@ ghost use Rattle.link_run.specs.Printed.{yes_text, no_text, fault_text, delay_li
 ghost use Rattle.link_run.specs.Answer.{IsPlanAnswer, IsVerdict};
 ghost use Rattle.carrier_plan.specs.PlanOf.{plan_of};
 
-use std::alloc::{AllocError, Global};
-
+use crate::status::Status;
 use carrier_plan::{Plan, PlanText, ReadError, read};
 use link_base::NoMemory;
 use plan_checker::{Checked, check};
-
-use crate::status::Status;
+use std::alloc::{AllocError, Global};
 
 /// A status with the whole text that is written before it.
 #[derive(Drop)]

@@ -8,4 +8,4 @@ use Rattle.link_run.proofs.verdict.yes.Goals as goal
 pub loop-c-preserved : goal.loop-c-preserved
 loop-c-preserved c =
     c.in_ok-put_delay.ensures ∙ ap (λ text. text ++ delay_line c.args.checked.now c.loop-c.c) c.loop-c.invariant
-      ∙ one_more_line (delay_line c.args.checked.now) (ended (codes "yes")) c.loop-c.c
+    ∙ one_more_line (delay_line c.args.checked.now) (ended (codes "yes")) c.loop-c.c

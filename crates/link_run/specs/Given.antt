@@ -1,0 +1,33 @@
+-- What is left of an answer that is written at the end. This is the project's own.
+use Rattle.std.specs.Prelude.{◌≡◌, ◌⊎◌, ◌≤◌, List, ℕ}
+use Rattle.link_base.specs.Faults.{Rose}
+use Rattle.link_base.specs.Sink.{Taken, Appends, AppendsFront}
+use Rattle.link_run.specs.declared.status.Status.{Status}
+use Rattle.link_run.specs.declared.status.Status.TheVariants.{WriteFault, NoMemory}
+use Rattle.carrier_plan.specs.PlanOf.{plan_of}
+use Rattle.link_run.specs.Answer.{IsPlanAnswer}
+
+-- The whole text was written, and the status is the answer's.
+pub record IsWhole (answer : Status) (text : List ℕ) (old new : Taken) (result : Status) : Type 0 where
+  pub status : result ≡ answer
+  pub written : Appends text old new
+  pub count : new.faults ≡ old.faults
+
+-- A write failed, and a front of the text was written.
+pub record IsCut (text : List ℕ) (old new : Taken) (result : Status) : Type 0 where
+  pub status : result ≡ WriteFault
+  pub front : AppendsFront text old new
+  pub never_falls : old.faults ≤ new.faults
+  pub rose : Rose old.faults new.faults
+
+abbrev pub IsGiven : Status → List ℕ → Taken → Taken → Status → Type 0
+IsGiven answer text old new result = IsWhole answer text old new result ⊎ IsCut text old new result
+
+-- The verdict on the octets of a plan's file is given, or nothing for want of memory.
+pub record IsNothing (old new : Taken) (result : Status) : Type 0 where
+  pub status : result ≡ NoMemory
+  pub same : new ≡ old
+
+abbrev pub IsVerdictGiven : List ℕ → Taken → Taken → Status → Type 0
+IsVerdictGiven octets old new result =
+    IsNothing old new result ⊎ ((answer : Status) × (text : List ℕ) × IsPlanAnswer (plan_of octets) answer text × IsGiven answer text old new result)
