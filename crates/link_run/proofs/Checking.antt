@@ -1,5 +1,5 @@
 -- The promise of `check`, from what each of its steps leaves.
-use Rattle.std.proofs.Common.{IsTrue, ◌≡◌, ◌+◌, ◌≤◌, ◌<◌, ◌⊎◌, inl, inr, ◌∷◌, ◌++◌, [], ℕ, zero, suc, List, Bool, true, false, length, take, length-take, arith, refl, sym, ap, subst, ◌∙◌, Option, Some, None, Result, Ok, Err, append-nil, cond, get_or, min}
+use Rattle.std.proofs.Common.{IsTrue, ◌≡◌, ◌≢◌, ◌+◌, ◌≤◌, ◌<◌, ◌⊎◌, inl, inr, ◌∷◌, ◌++◌, [], ℕ, zero, suc, List, Bool, true, false, length, take, length-take, arith, refl, sym, ap, subst, ◌∙◌, Option, Some, None, Result, Ok, Err, append-nil, cond, get_or, min}
 use Rattle.std.specs.Prelude.{Contains, nat_lt}
 use Rattle.std.specs.FinMap.{get}
 use Rattle.std.proofs.lemmas.Bool.{cases_lt, cond-true, lt-ltb}
@@ -20,16 +20,16 @@ use Rattle.link_run.specs.Given.{IsWhole, IsCut, IsVerdictGiven}
 use Rattle.link_run.specs.Promises.{Promises, is_answer, IsReached}
 use Rattle.link_run.proofs.Loading.{counted_ok, counted_err}
 
-keeps : (sink : Taken) → Appends [] sink sink
+pub keeps : (sink : Taken) → Appends [] sink sink
 keeps sink = record { tells = refl; written = λ told. sym (append-nil sink.written) }
 
 -- the one name of a list of one
 the_one : (one name : List ℕ) → Contains (one ∷ []) name → one ≡ name
 the_one one name h = only one name h.0 h.1 h.2
   where
-  only : (one name : List ℕ) (k : ℕ) → k < 1 → get_or (one ∷ []) k name ≡ name → one ≡ name
-  only one name zero within e = e
-  only one name (suc k) within e = absurd (omega arith)
+    only : (one name : List ℕ) (k : ℕ) → k < 1 → get_or (one ∷ []) k name ≡ name → one ≡ name
+    only one name zero within e = e
+    only one name (suc k) within e = absurd (omega arith)
 
 in_one : (name : List ℕ) → Contains (name ∷ []) name
 in_one name = (0, omega arith, refl)
@@ -54,8 +54,10 @@ reached_name name held failed (inr none) = subst (IsReached (name ∷ []) held) 
 
 -- a read fault, with nothing written
 pub after_fault : (name : List ℕ) (old new : Shown) (sink : Taken) → SameFiles old new → old.faults ≤ new.faults → Rose old.faults new.faults
-  → (IsTrue old.tells → FailsAtFile name old new) → Promises (Some (check name)) old new sink sink ReadFault
+    → (IsTrue old.tells → FailsAtFile name old new) → Promises (Some (check name)) old new sink sink ReadFault
 after_fault name old new sink files never_falls rose fails = record {
+  usage = (λ no. absurd (cc), λ no. absurd (cc));
+  untouched = λ no. absurd (cc);
   files = files;
   reads = counted_err _ old.faults new.faults refl never_falls rose;
   writes = counted_ok _ sink.faults sink.faults (λ h. cc) refl;
@@ -65,8 +67,8 @@ after_fault name old new sink files never_falls rose fails = record {
     failed = reached_name name old.held new.failed (fails told).failed;
     chosen = (fails told).chosen;
     of_plan = λ other whole chosen in_plan no_feed found.
-      let same : name ≡ other = the_one name other in_plan in
-      (fails told).taken whole (subst (λ n. get old.held n ≡ Some whole) (sym same) found) (chosen ∙ ap Some (sym same));
+        let same : name ≡ other = the_one name other in_plan in
+        (fails told).taken whole (subst (λ n. get old.held n ≡ Some whole) (sym same) found) (chosen ∙ ap Some (sym same));
   };
   settled = λ is told. record {
     text = [];
@@ -81,6 +83,8 @@ after_fault name old new sink files never_falls rose fails = record {
 -- want of memory, with nothing written
 pub after_memory : (name : List ℕ) (old new : Shown) (sink : Taken) → SameFiles old new → new.faults ≡ old.faults → Promises (Some (check name)) old new sink sink NoMemory
 after_memory name old new sink files same = record {
+  usage = (λ no. absurd (cc), λ no. absurd (cc));
+  untouched = λ no. absurd (cc);
   files = files;
   reads = counted_ok _ old.faults new.faults (λ h. cc) same;
   writes = counted_ok _ sink.faults sink.faults (λ h. cc) refl;
@@ -108,22 +112,37 @@ answering : (read : Result Plan fault.PlanText) (status : Status) (text : List �
 answering (Ok p) status text h = answering_verdict p status text h
 answering (Err e) status text h = ap is_answer h.0
 
+not_usage_verdict : (p : Plan) (status : Status) (text : List ℕ) → IsVerdict p status text → status ≢ Usage
+not_usage_verdict p Done text h = λ e. cc
+not_usage_verdict p (No rule item) text h = λ e. cc
+not_usage_verdict p Usage text h = absurd h
+not_usage_verdict p (PlanText fault) text h = absurd h
+not_usage_verdict p ReadFault text h = absurd h
+not_usage_verdict p WriteFault text h = absurd h
+not_usage_verdict p NoMemory text h = absurd h
+
+not_usage : (read : Result Plan fault.PlanText) (status : Status) (text : List ℕ) → IsPlanAnswer read status text → status ≢ Usage
+not_usage (Ok p) status text h = not_usage_verdict p status text h
+not_usage (Err e) status text h = λ usage. absurd (let is = h.0 in cc)
+
 check_answer : (name octets : List ℕ) (held : Files) (status : Status) (text : List ℕ) → IsPlanFile name held octets → IsPlanAnswer (plan_of octets) status text → IsCheckAnswer (get held name) status text
 unfolding IsCheckAnswer
 check_answer name octets held status text file judged =
     subst (λ found. IsCheckAnswer found status text) (sym file.held_here)
-      (subst (λ read. IsPlanAnswer read status text) (ap plan_of file.front ∙ plan_of_front file.whole) judged)
+    (subst (λ read. IsPlanAnswer read status text) (ap plan_of file.front ∙ plan_of_front file.whole) judged)
 
 no_answer : (status failure : Status) → is_answer status ≡ true → is_answer failure ≡ false → status ≡ failure → ⊥
 no_answer status failure answers fails same = let e = ap is_answer same in absurd (cc)
 
 -- the whole text of the answer was written
 after_whole : (name : List ℕ) (old new : Shown) (before after : Taken) (answer result : Status) (text : List ℕ) → SameFiles old new → new.faults ≡ old.faults
-  → is_answer answer ≡ true → (IsTrue old.tells → IsCheckAnswer (get old.held name) answer text) → IsWhole answer text before after result
-  → Promises (Some (check name)) old new before after result
-after_whole name old new before after answer result text files same answers judged whole =
+    → is_answer answer ≡ true → answer ≢ Usage → (IsTrue old.tells → IsCheckAnswer (get old.held name) answer text) → IsWhole answer text before after result
+    → Promises (Some (check name)) old new before after result
+after_whole name old new before after answer result text files same answers other judged whole =
     let is_yes : is_answer result ≡ true = ap is_answer whole.status ∙ answers in
     record {
+      usage = (λ no. absurd (other (sym whole.status ∙ no)), λ no. absurd (cc));
+      untouched = λ no. absurd (cc);
       files = files;
       reads = counted_ok _ old.faults new.faults (no_answer result ReadFault is_yes refl) same;
       writes = counted_ok _ before.faults after.faults (no_answer result WriteFault is_yes refl) whole.count;
@@ -136,11 +155,13 @@ after_whole name old new before after answer result text files same answers judg
 
 -- a write failed
 after_cut : (name : List ℕ) (old new : Shown) (before after : Taken) (answer result : Status) (text : List ℕ) → SameFiles old new → new.faults ≡ old.faults
-  → (IsTrue old.tells → IsCheckAnswer (get old.held name) answer text) → IsCut text before after result
-  → Promises (Some (check name)) old new before after result
+    → (IsTrue old.tells → IsCheckAnswer (get old.held name) answer text) → IsCut text before after result
+    → Promises (Some (check name)) old new before after result
 after_cut name old new before after answer result text files same judged cut =
     let is = cut.status in
     record {
+      usage = (λ no. absurd (cc), λ no. absurd (cc));
+      untouched = λ no. absurd (cc);
       files = files;
       reads = counted_ok _ old.faults new.faults (λ h. cc) same;
       writes = counted_err _ before.faults after.faults is cut.never_falls cut.rose;
@@ -153,12 +174,12 @@ after_cut name old new before after answer result text files same judged cut =
 
 -- the verdict was written, as far as it could be
 pub after_verdict : (name octets : List ℕ) (old new : Shown) (before after : Taken) (result : Status) → SameFiles old new → new.faults ≡ old.faults
-  → (IsTrue old.tells → IsPlanFile name old.held octets) → IsVerdictGiven octets before after result → Promises (Some (check name)) old new before after result
+    → (IsTrue old.tells → IsPlanFile name old.held octets) → IsVerdictGiven octets before after result → Promises (Some (check name)) old new before after result
 after_verdict name octets old new before after result files same file (inl nothing) =
     subst (λ status. Promises (Some (check name)) old new before after status) (sym nothing.status)
-      (subst (λ sink. Promises (Some (check name)) old new before sink NoMemory) (sym nothing.same) (after_memory name old new before files same))
+    (subst (λ sink. Promises (Some (check name)) old new before sink NoMemory) (sym nothing.same) (after_memory name old new before files same))
 after_verdict name octets old new before after result files same file (inr (answer, text, judged, inl whole)) =
-    after_whole name old new before after answer result text files same (answering (plan_of octets) answer text judged)
-      (λ told. check_answer name octets old.held answer text (file told) judged) whole
+    after_whole name old new before after answer result text files same (answering (plan_of octets) answer text judged) (not_usage (plan_of octets) answer text judged)
+    (λ told. check_answer name octets old.held answer text (file told) judged) whole
 after_verdict name octets old new before after result files same file (inr (answer, text, judged, inr cut)) =
     after_cut name old new before after answer result text files same (λ told. check_answer name octets old.held answer text (file told) judged) cut

@@ -2,3 +2,4 @@ pub mod Filling
 pub mod Loading
 pub mod Lines
 pub mod Checking
+pub mod Running

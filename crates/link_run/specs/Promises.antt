@@ -1,6 +1,6 @@
 -- What a call of the program promises of its text, its status and the outside. This is the project's own.
 -- A shelf or a sink that does not tell its content leaves the facts on content open, and the counts and causes as they are.
-use Rattle.std.specs.Prelude.{◌≡◌, ◌≢◌, ◌⊎◌, ◌+◌, ◌≤◌, ℕ, Bool, true, false, IsTrue, List, [], ◌∷◌, ◌++◌, length, Contains, Option, Some, None, Ok}
+use Rattle.std.specs.Prelude.{◌↔◌, ◌≡◌, ◌≢◌, ◌⊎◌, ◌+◌, ◌≤◌, ℕ, Bool, true, false, IsTrue, List, [], ◌∷◌, ◌++◌, length, Contains, Option, Some, None, Ok}
 use Rattle.std.specs.FinMap.{get}
 use Rattle.link_base.specs.Faults.{Rose}
 use Rattle.link_base.specs.Shelf.{Files, Shown, SameFiles}
@@ -87,6 +87,9 @@ pub record ChecksPlan (name : List ℕ) (held : Files) (old new : Taken) (status
 
 -- All that a call promises, over what the shelf and the sink showed before and after it.
 pub record Promises (form : Option Form) (shelf shelf' : Shown) (sink sink' : Taken) (status : Status) : Type 0 where
+  -- the words alone say whether they are of a form, and words of none touch nothing
+  pub usage : (status ≡ Usage) ↔ (form ≡ None)
+  pub untouched : form ≡ None → (shelf' ≡ shelf) × (sink' ≡ sink)
   pub files : SameFiles shelf shelf'
   pub reads : Counts (status ≡ ReadFault) shelf.faults shelf'.faults
   pub writes : Counts (status ≡ WriteFault) sink.faults sink'.faults
@@ -95,3 +98,9 @@ pub record Promises (form : Option Form) (shelf shelf' : Shown) (sink sink' : Ta
   pub reached : status ≡ ReadFault → IsTrue shelf.tells → StandsAt form shelf shelf'
   pub settled : status ≡ ReadFault → IsTrue shelf.tells → LeavesSettled form shelf shelf' sink sink'
   pub memory : status ≡ NoMemory → LeavesNothing form shelf shelf' sink sink'
+
+-- Where neither count rose, the whole text of the answer was written with its status, or memory was wanting.
+abbrev pub IsComplete : Option Form → Shown → Shown → Taken → Taken → Status → Type 0
+IsComplete form shelf shelf' sink sink' status =
+    IsTrue shelf.tells → ¬ Rose shelf.faults shelf'.faults → ¬ Rose sink.faults sink'.faults
+    → (status ≡ NoMemory) ⊎ Told form shelf.held sink sink' status
