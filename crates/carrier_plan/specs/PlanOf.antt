@@ -32,7 +32,7 @@ required spot (Some d) = Ok d
 abbrev pub value_at : Members → Spot → Result Data PlanText
 value_at keys spot = required spot (get_member (key_of spot.field) keys)
 
--- the keys that have a value of one kind
+-- a required key, by what its value has to be
 abbrev pub number_at : Members → Spot → Result ℕ PlanText
 number_at keys spot = value_at keys spot >>= number_of spot
 
@@ -42,20 +42,21 @@ version_at keys spot = number_at keys spot >>= known_version spot
 abbrev pub method_at : Members → Spot → Result Method PlanText
 method_at keys spot = number_at keys spot >>= method_numbered spot
 
+abbrev pub mode_at : Members → Spot → Result Mode PlanText
+mode_at keys spot = value_at keys spot >>= mode_of spot
+
 -- the keys of a table, in its order
 abbrev pub keys_in : Members → List (List ℕ)
 keys_in no_members = []
 keys_in (member key d rest) = key ∷ keys_in rest
 
--- some key of the table is the key of none of these fields
+-- the key is that of one of these fields
 abbrev pub is_known : List Field → List ℕ → Bool
 is_known fields key = list_any (λ f. bytes_eq (key_of f) key) fields
 
+-- the table has a key of none of these fields
 abbrev pub has_extra : List Field → Members → Bool
 has_extra fields keys = list_any (λ key. not (is_known fields key)) (keys_in keys)
-
-abbrev pub mode_at : Members → Spot → Result Mode PlanText
-mode_at keys spot = value_at keys spot >>= mode_of spot
 
 -- a key of the whole document, and one of the carrier at a place
 abbrev pub top : Field → Spot
@@ -114,9 +115,8 @@ plan_in keys = do
   option ← number_at keys (top field.LineOption)
   mode ← mode_at keys (top field.Mode)
   playout ← number_at keys (top field.Playout)
-  if has_extra top_fields keys then Err (Extra part.Top)
-      else (carriers_of (get_member (key_of field.Carrier) keys) >>= (λ carriers.
-      Ok (record { option = option; mode = mode; playout = playout; carriers = carriers })))
+  carriers ← if has_extra top_fields keys then Err (Extra part.Top) else carriers_of (get_member (key_of field.Carrier) keys)
+  Ok (record { option = option; mode = mode; playout = playout; carriers = carriers })
 
 -- what TOML gives for the text, or nothing where it refuses the text
 abbrev pub plan_of_document : Option Members → Result Plan PlanText

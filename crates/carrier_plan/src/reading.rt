@@ -188,7 +188,7 @@ fn carriers_from(alloc: Global, values: &[Value]) -> Result<CarrierList, ReadErr
 {
     let mut carriers = CarrierList::new(alloc);
     for (place, value) in values.iter().enumerate() {
-        // No text of a plan's length has as many elements as a u32 counts.
+        // A text of at most `LONGEST` octets has fewer elements than a u32 counts.
         let Ok(i) = u32::try_from(place) else {
             return Err(ReadError::NoMemory);
         };
