@@ -13,7 +13,7 @@ use Rattle.std.proofs.lemmas.List.{map-append, length-set}
 use Rattle.link_base.specs.MemShelf.{ShelfMemory, HasStop, entry_of, held_of, name_at, left_at, IsPlace, IsFirstNamed, KeepsNames}
 use Rattle.link_base.specs.declared.mem_shelf.File.{File}
 
--- two names tie in byte order exactly where they are one
+-- a name ties with itself in byte order
 ties : (p q : List ℕ) → p ≡ q → is_eq (slice_cmp nat_cmp p q) ≡ true
 ties p q same = is_eq-slice_cmp p q ∙ (bytes_eq-Decides p q).1 same
 
@@ -29,17 +29,20 @@ same_name p q h = (bytes_eq-Decides p q).0 (sym (is_eq-slice_cmp p q) ∙ h)
 abbrev pub NoneNamed : List ℕ → List File → ℕ → Type 0
 NoneNamed name files n = (k : ℕ) (d : File) → k < n → string_bytes (get_or files k d).name ≢ name
 
+-- a file of this name with none before it is the first of the name
 pub first_from : (name : List ℕ) (files : List File) (i : ℕ) (d : File) → NoneNamed name files i → i < length files → string_bytes (get_or files i d).name ≡ name → IsFirstNamed name files i
 first_from name [] i d none within same = absurd (omega arith)
 first_from name (file ∷ files) zero d none within same = same
 first_from name (file ∷ files) (suc i) d none within same = (none 0 d (omega arith), first_from name files i d (λ k e below. none (suc k) e (omega arith)) (omega arith) same)
 
+-- where no file has the name, the map has no entry of it
 none_found : (name : List ℕ) (files : List File) (d : File) → NoneNamed name files (length files) → find (slice_cmp nat_cmp) name (map entry_of files) ≡ None
 none_found name [] d none = refl
 none_found name (file ∷ files) d none =
     cond-false (is_eq (slice_cmp nat_cmp name (string_bytes file.name))) _ _ (differs name (string_bytes file.name) (λ same. none 0 d (omega arith) (sym same)))
     ∙ none_found name files d (λ k e below. none (suc k) e (omega arith))
 
+-- the same of the map itself
 pub get_none : (name : List ℕ) (files : List File) → NoneNamed name files (length files) → get (held_of files) name ≡ None
 get_none name [] none = get-from_entries nat_list_cmp_total [] name
 get_none name (file ∷ files) none = get-from_entries nat_list_cmp_total (map entry_of (file ∷ files)) name ∙ none_found name (file ∷ files) file none
@@ -52,14 +55,17 @@ found_first name (file ∷ files) (suc i) h =
     cond-false (is_eq (slice_cmp nat_cmp name (string_bytes file.name))) _ _ (differs name (string_bytes file.name) (λ same. h.0 (sym same)))
     ∙ found_first name files i h.1
 
+-- the same of the map itself
 pub get_first : (name : List ℕ) (files : List File) (i : ℕ) → IsFirstNamed name files i → get (held_of files) name ≡ option_map (λ file. file.octets.items) (slice_get files i)
 get_first name files i h = get-from_entries nat_list_cmp_total (map entry_of files) name ∙ found_first name files i h
 
+-- the first file of a name has that name
 pub first_name : (name : List ℕ) (files : List File) (i : ℕ) → IsFirstNamed name files i → option_map (λ file. string_bytes file.name) (slice_get files i) ≡ Some name
 first_name name [] i h = absurd h
 first_name name (file ∷ files) zero h = ap Some h
 first_name name (file ∷ files) (suc i) h = first_name name files i h.1
 
+-- the first file of a name is in the list
 pub first_within : (name : List ℕ) (files : List File) (i : ℕ) → IsFirstNamed name files i → i < length files
 first_within name [] i h = absurd h
 first_within name (file ∷ files) zero h = omega arith
@@ -72,6 +78,7 @@ in_either_order true false x y z h = refl
 in_either_order false true x y z h = refl
 in_either_order false false x y z h = refl
 
+-- after a test has failed it may be made again
 asked_twice : {X : Type 0} (b : Bool) (x y z : X) → cond b x z ≡ cond b x (cond b y z)
 asked_twice true x y z = refl
 asked_twice false x y z = refl
@@ -87,6 +94,7 @@ find_replaced name (first ∷ files) (suc i) file q h new =
     ∙ in_either_order (is_eq (slice_cmp nat_cmp q (string_bytes first.name))) (is_eq (slice_cmp nat_cmp q name)) _ _ _
     (λ one two. h.0 (sym (same_name q (string_bytes first.name) one) ∙ same_name q name two))
 
+-- to replace the first file of a name is to insert its octets in the map
 pub held_replaced : (name : List ℕ) (files : List File) (i : ℕ) (file : File) → IsFirstNamed name files i → string_bytes file.name ≡ name
     → held_of (slice_set files i file) ≡ insert (held_of files) name file.octets.items
 held_replaced name files i file h new = same_map nat_list_cmp_total (slice_cmp-IsAntisymmetric nat_cmp-IsAntisymmetric) _ _ (λ q.
@@ -95,6 +103,7 @@ held_replaced name files i file h new = same_map nat_list_cmp_total (slice_cmp-I
     ∙ sym (get-insert nat_list_cmp_total (held_of files) name file.octets.items q
     ∙ ap (cond (is_eq (slice_cmp nat_cmp q name)) (Some file.octets.items)) (get-from_entries nat_list_cmp_total (map entry_of files) q)))
 
+-- to add a file of a new name is to insert its octets in the map
 pub held_pushed : (name : List ℕ) (files : List File) (file : File) → get (held_of files) name ≡ None → string_bytes file.name ≡ name
     → held_of (files ++ file ∷ []) ≡ insert (held_of files) name file.octets.items
 held_pushed name files file none new =
@@ -102,12 +111,13 @@ held_pushed name files file none new =
     ∙ ap (λ n. from_entries (map entry_of files ++ (n, file.octets.items) ∷ [])) new
     ∙ from_entries_push nat_list_cmp_total (slice_cmp-IsAntisymmetric nat_cmp-IsAntisymmetric) (map entry_of files) name file.octets.items (sym (get-from_entries nat_list_cmp_total (map entry_of files) name) ∙ none)
 
--- the name of the first file of a name
+-- the first file of a name has that name, by its place
 pub first_name_or : (name : List ℕ) (files : List File) (i : ℕ) (d : File) → IsFirstNamed name files i → string_bytes (get_or files i d).name ≡ name
 first_name_or name [] i d h = absurd h
 first_name_or name (file ∷ files) zero d h = h
 first_name_or name (file ∷ files) (suc i) d h = first_name_or name files i d h.1
 
+-- the same of a value that is known to be that file
 pub name_of_first : (name : List ℕ) (files : List File) (i : ℕ) (file : File) → IsFirstNamed name files i → file ≡ get_or files i file → string_bytes file.name ≡ name
 name_of_first name files i file found is = ap (λ (f : File). string_bytes f.name) is ∙ first_name_or name files i file found
 
@@ -120,15 +130,18 @@ replaced_name (f ∷ files) zero (suc j) file h = refl
 replaced_name (f ∷ files) (suc i) zero file h = refl
 replaced_name (f ∷ files) (suc i) (suc j) file h = replaced_name files i j file h
 
+-- a file behind the others leaves their names
 pushed_name : (files : List File) (j : ℕ) (file : File) → j < length files → option_map (λ f. string_bytes f.name) (slice_get (files ++ file ∷ []) j) ≡ option_map (λ f. string_bytes f.name) (slice_get files j)
 pushed_name [] j file h = absurd (omega arith)
 pushed_name (f ∷ files) zero file h = refl
 pushed_name (f ∷ files) (suc j) file h = pushed_name files j file (omega arith)
 
+-- the name of an entry is the name of its file
 two_maps : (o : Option File) → option_map (λ entry. entry.0) (option_map entry_of o) ≡ option_map (λ f. string_bytes f.name) o
 two_maps None = refl
 two_maps (Some f) = refl
 
+-- the names at all places stay where a file is replaced by another of its name
 pub keeps_replaced : (name : List ℕ) (files : List File) (i : ℕ) (file : File) → IsFirstNamed name files i → string_bytes file.name ≡ name → KeepsNames files (slice_set files i file)
 keeps_replaced name files i file found new = record {
   longer = omega (arith, length-set {A = File});
@@ -138,6 +151,7 @@ keeps_replaced name files i file found new = record {
   ];
 }
 
+-- the names at all places stay where a file is added behind the others
 pub keeps_pushed : (files : List File) (file : File) → KeepsNames files (files ++ file ∷ [])
 keeps_pushed files file = record {
   longer = omega (arith, length-append files (file ∷ []));
@@ -147,22 +161,26 @@ keeps_pushed files file = record {
   ] in_old;
 }
 
+-- equal files have one name
 pub name_is : (name : List ℕ) (file found : File) → file ≡ found → string_bytes file.name ≡ name → string_bytes found.name ≡ name
 name_is name file found is same = ap (λ (f : File). string_bytes f.name) (sym is) ∙ same
 
--- what a shelf shows once the first file of a name is selected
+-- where the first file of a name is selected, the name of the selected file is that name
 pub name_at_first : (name : List ℕ) (files : List File) (i : ℕ) → IsFirstNamed name files i → name_at files (Some i) ≡ Some name
 name_at_first name files i found = two_maps (slice_get files i) ∙ first_name name files i found
 
+-- all octets of a file are those from 0 on
 whole : (o : Option File) (some : is_some o ≡ true) → option_map (λ file. file.octets.items) o ≡ Some (drop 0 (unwrap_or (option_map (λ entry. entry.1) (option_map entry_of o)) []))
 whole None some = absurd (cc)
 whole (Some file) some = refl
 
+-- a place in the list has a file
 there : (files : List File) (i : ℕ) → i < length files → is_some (slice_get files i) ≡ true
 there [] i within = absurd (omega arith)
 there (file ∷ files) zero within = refl
 there (file ∷ files) (suc i) within = there files i (omega arith)
 
+-- what the map has at a name is all of its first file
 pub left_at_first : (name : List ℕ) (files : List File) (i : ℕ) → IsFirstNamed name files i → get (held_of files) name ≡ Some (left_at files (Some i) 0)
 left_at_first name files i found = get_first name files i found ∙ whole (slice_get files i) (there files i (first_within name files i found))
 
@@ -172,10 +190,11 @@ name_in [] i file within = absurd (omega arith)
 name_in (f ∷ files) zero file within = refl
 name_in (f ∷ files) (suc i) file within = name_in files i file (omega arith)
 
+-- the same of a value that is known to be that file
 pub name_at_place : (files : List File) (i : ℕ) (file : File) → i < length files → file ≡ get_or files i file → name_at files (Some i) ≡ Some (string_bytes file.name)
 name_at_place files i file within is = two_maps (slice_get files i) ∙ name_in files i file within ∙ ap (λ (f : File). Some (string_bytes f.name)) (sym is)
 
--- what is known of reads of the selected file by its name
+-- a read that passes no stop of the selected file passes none by its name
 pub passes_by_name : (view now : ShelfMemory) (name : List ℕ) (k : ℕ) → view ≡ now → view.chosen ≡ Some name
     → ((offset : ℕ) → view.position < offset → Contains view.stops (name, offset) → view.position + k ≤ offset)
     → (chosen : List ℕ) (offset : ℕ) → now.chosen ≡ Some chosen → now.position < offset → HasStop now chosen offset → now.position + k ≤ offset
@@ -185,6 +204,7 @@ passes_by_name view now name k is selected free =
     let same : chosen ≡ name = cc in
     free offset after (subst (λ n. Contains view.stops (n, offset)) same stop))
 
+-- a stop at the position of the selected file is known by its name
 pub stopped_by_name : (view now : ShelfMemory) (name : List ℕ) → view ≡ now → view.chosen ≡ Some name → Contains view.stops (name, view.position)
     → IsSomeAnd now.chosen (λ chosen. HasStop now chosen now.position)
 stopped_by_name view now name is selected stop =

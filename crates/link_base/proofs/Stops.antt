@@ -9,6 +9,7 @@ use Rattle.std.proofs.lemmas.List.Elements.{Contains-push, Contains-push_cases, 
 use Rattle.link_base.specs.MemShelf.{stop_of, IsFreeRun}
 use Rattle.link_base.specs.declared.mem_shelf.Stop.{Stop}
 
+-- where there are no stops, every run is free
 pub no_stops : (name : List ℕ) (position free : ℕ) → 0 < free → IsFreeRun [] name position free
 no_stops name position free some = record {
   stopped = (λ none. absurd (omega arith), λ h. absurd (omega (arith, h.1)));
@@ -64,16 +65,20 @@ pub one_more : (stops : List Stop) (i : ℕ) (stop : Stop) → i < length stops 
     → map stop_of (take (i + 1) stops) ≡ map stop_of (take i stops) ++ (string_bytes stop.name, stop.offset) ∷ []
 one_more stops i stop within is = map_more stop_of stops i stop within ∙ ap (λ (s : Stop). map stop_of (take i stops) ++ stop_of s ∷ []) (sym is)
 
+-- the same by an equal name
 pub same_stop_name : (name other : List ℕ) (position free offset : ℕ) (stops : List (List ℕ × ℕ)) → other ≡ name
     → IsFreeRun (stops ++ (name, offset) ∷ []) name position free → IsFreeRun (stops ++ (other, offset) ∷ []) name position free
 same_stop_name name other position free offset stops same run = subst (λ n. IsFreeRun (stops ++ (n, offset) ∷ []) name position free) (sym same) run
 
+-- names that the code finds different differ
 pub names_differ : (name other : List ℕ) → true ≡ not (bytes_eq other name) → other ≢ name
 names_differ name other differs same = let equal = (bytes_eq-Decides other name).1 same in cc
 
+-- what is not false is true
 twice_not : (b : Bool) → false ≡ not b → b ≡ true
 twice_not true h = refl
 twice_not false h = absurd (cc)
 
+-- names that the code does not find different are one
 pub names_same : (name other : List ℕ) → false ≡ not (bytes_eq other name) → other ≡ name
 names_same name other same = (bytes_eq-Decides other name).0 (twice_not (bytes_eq other name) same)
