@@ -15,7 +15,9 @@ pub struct RawIq {
     pub q: i32,
 }
 
-/// A sample whose I and Q have M bits each, in two's complement. M is 4 to 20.
+/// A sample whose I and Q have M bits each, in two's complement. M is 4 to 20, in both directions of a link.
+///
+/// Contracts see it as the `RawIq` that `wide` gives.
 #[derive(Clone, Copy, PartialEq, Eq, Debug)]
 pub struct Iq<const M: u32> {
     i: i32,
