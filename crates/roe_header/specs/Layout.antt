@@ -78,3 +78,7 @@ parsed octets =
 abbrev pub answered : Result Packet NotRoe → Result Fields NotRoe
 answered (Ok p) = Ok (fields p)
 answered (Err e) = Err e
+
+-- the octets begin with the header of a packet and its payload
+abbrev pub BeginsWith : Fields → List ℕ → Type 0
+BeginsWith f octets = (rest : List ℕ) × (octets ≡ (header f ++ f.payload) ++ rest)

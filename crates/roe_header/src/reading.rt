@@ -1,5 +1,5 @@
-ghost use Rattle.std.specs.Prelude.{◌≡◌, ℕ, ◌+◌, ◌≤◌, List, ◌++◌, length, take, drop, Ok, IsTrue};
-ghost use Rattle.roe_header.specs.Layout.{Fields, IsWritable, two_at, four_at, is_subtype, packet_octets, parsed, answered};
+ghost use Rattle.std.specs.Prelude.{◌≡◌, ℕ, ◌+◌, ◌≤◌, List, ◌++◌, length, take, drop, Ok, IfOk, IsTrue};
+ghost use Rattle.roe_header.specs.Layout.{Fields, IsWritable, two_at, four_at, is_subtype, packet_octets, parsed, answered, fields, BeginsWith};
 
 use crate::packet::{ETHER_TYPE, HEADER};
 use crate::{NotRoe, Packet};
@@ -38,9 +38,9 @@ fn is_subtype(sub: u8) -> bool
     matches!(sub, 2..=4)
 }
 
-/// The packet at the front of an Ethernet frame's octets, its payload lent. Octets behind the payload are read past.
+/// The packet at the front of the octets, by the fields of its header.
 #[tactic(auto, unfolding(crate::specs::Layout::parsed))]
-pub fn parse(octets: &[u8]) -> Result<Packet<'_>, NotRoe>
+fn packet_of(octets: &[u8]) -> Result<Packet<'_>, NotRoe>
     ensures { answered result ≡ parsed octets.now }
 {
     if octets.len() < HEADER {
@@ -69,6 +69,15 @@ pub fn parse(octets: &[u8]) -> Result<Packet<'_>, NotRoe>
         seq: four_at(octets, 18),
         payload: &octets[HEADER..HEADER + usize::from(said)],
     })
+}
+
+/// The packet at the front of an Ethernet frame's octets, its payload lent. Octets behind the payload are read past.
+pub fn parse(octets: &[u8]) -> Result<Packet<'_>, NotRoe>
+    ensures exact { answered result ≡ parsed octets.now }
+    // What is read stands so in the octets.
+    ensures found { IfOk result (λ p. BeginsWith (fields p) octets.now) }
+{
+    packet_of(octets)
 }
 
 /// What was written is read again, whatever octets follow it.
