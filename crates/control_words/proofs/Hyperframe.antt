@@ -14,14 +14,16 @@ use Rattle.control_words.proofs.Octets.{word_size_bounds}
 use Rattle.control_words.specs.Reading.{control_octet, is_synchronized, announced, numbers}
 
 -- pieces of one length
-length_of_pieces : {A : Type 0} (f : ℕ → List A) (n : ℕ) → ((i : ℕ) → length (f i) ≡ n) → (xs : List ℕ) → length (flat_map f xs) ≡ n * length xs
+length_of_pieces : {A : Type 0} (f : ℕ → List A) (n : ℕ) → ((i : ℕ) → length (f i) ≡ n) → (xs : List ℕ) →
+    length (flat_map f xs) ≡ n * length xs
 length_of_pieces f n h [] = omega arith
 length_of_pieces f n h (x ∷ xs) =
     let e = length_of_pieces f n h xs in
     length-append (f x) (flat_map f xs) ∙ grind (arith, h x)
 
 -- element y of piece x stands after the pieces before it
-element_of_piece : (f : ℕ → List ℕ) (Y n x y : ℕ) → ((i : ℕ) → length (f i) ≡ Y) → x < n → y < Y → slice_index (flat_map f (range_with_len 0 n)) (Y * x + y) ≡ slice_index (f x) y
+element_of_piece : (f : ℕ → List ℕ) (Y n x y : ℕ) → ((i : ℕ) → length (f i) ≡ Y) → x < n → y < Y →
+    slice_index (flat_map f (range_with_len 0 n)) (Y * x + y) ≡ slice_index (f x) y
 element_of_piece f Y n x y h lx ly =
     let at : get_or (range_with_len 0 n) x 0 ≡ x = get_or-range_with_len 0 n x 0 lx ∙ zero-add x in
     let here : length (f (get_or (range_with_len 0 n) x 0)) ≡ Y = h _ in
@@ -42,7 +44,8 @@ octet_read Y h a managed x y lx ly =
     ∙ ap (λ (k : ℕ). octet_of k (frame_z (256 * h + x)) (frame_bfn (256 * h + x)) a (managed x) y) place
 
 -- the sync word
-synchronized : (single : Bool) (first second : ℕ) → first ≡ 188 → (single ≡ false → second ≡ 80) → (first == 188 && (single || second == 80 || second == 197)) ≡ true
+synchronized : (single : Bool) (first second : ℕ) → first ≡ 188 → (single ≡ false → second ≡ 80) →
+    (first == 188 && (single || second == 80 || second == 197)) ≡ true
 synchronized true first second e k = rw e refl
 synchronized false first second e k = rw (e, k refl) refl
 
@@ -59,7 +62,8 @@ announced_by Y control a w sync version hdlc l1 pointer =
     let pointed : allows_pointer a.pointer ≡ true = w.pointer in
     rw (sync, version, hdlc, l1, pointer, one, rate, first, state, allowed, pointed) refl
 
-pub read_back : (Y h : ℕ) (a : Announce) (managed : ℕ → List ℕ) → IsWordSize Y → IsWithinTable Y a → announced Y (words_of_hyperframe Y h a managed) ≡ Ok a
+pub read_back : (Y h : ℕ) (a : Announce) (managed : ℕ → List ℕ) → IsWordSize Y → IsWithinTable Y a →
+    announced Y (words_of_hyperframe Y h a managed) ≡ Ok a
 unfolding octet_of
 read_back Y h a managed size w =
     let bounds = word_size_bounds Y size in
@@ -83,7 +87,8 @@ pair e f = cc
 joined : (bfn low high : ℕ) → low ≡ bfn % 256 → high ≡ bfn / 256 → bfn < 4096 → low + 256 * (high % 16) ≡ bfn
 joined bfn low high l h b = omega arith
 
-pub numbers_back : (Y h x : ℕ) (a : Announce) (managed : ℕ → List ℕ) → IsWordSize Y → x < 256 → numbers Y (words_of_hyperframe Y h a managed) ≡ (frame_z (256 * h + x), frame_bfn (256 * h + x))
+pub numbers_back : (Y h x : ℕ) (a : Announce) (managed : ℕ → List ℕ) → IsWordSize Y → x < 256 →
+    numbers Y (words_of_hyperframe Y h a managed) ≡ (frame_z (256 * h + x), frame_bfn (256 * h + x))
 unfolding octet_of
 numbers_back Y h x a managed size l =
     let bounds = word_size_bounds Y size in

@@ -13,7 +13,8 @@ count_step w a n true h = grind (arith, nat_tests)
 count_step w a n false h = grind (arith, nat_tests)
 
 -- how many of n numbers from a on pass a test that the numbers below w pass
-pub count_below : (p : ℕ → Bool) (w a n : ℕ) → ((y : ℕ) → a ≤ y → y < a + n → p y ≡ nat_lt y w) → count_by p (range_with_len a n) ≡ min (w - a) n
+pub count_below : (p : ℕ → Bool) (w a n : ℕ) → ((y : ℕ) → a ≤ y → y < a + n → p y ≡ nat_lt y w) →
+    count_by p (range_with_len a n) ≡ min (w - a) n
 count_below p w a zero h = omega arith
 count_below p w a (suc n) h =
     let rest = count_below p w (a + 1) n (λ y l r. h y (omega arith) (omega arith)) in
@@ -96,13 +97,16 @@ managed_rank Y x y a h k =
     omega arith
 
 -- how many octets of a word belong to the channels, by its first octets
-pub managed_count : (Y x w : ℕ) (a : Announce) → w ≤ Y → ((y : ℕ) → y < Y → is_managed_place a x y ≡ nat_lt y w) → managed_before Y x a ≡ w
+pub managed_count : (Y x w : ℕ) (a : Announce) → w ≤ Y →
+    ((y : ℕ) → y < Y → is_managed_place a x y ≡ nat_lt y w) → managed_before Y x a ≡ w
 managed_count Y x w a l h =
     let e : managed_before Y x a ≡ min (w - 0) Y = count_below (is_managed_place a x) w 0 Y (λ y m r. h y (omega arith)) in
     omega arith
 
 -- where no octet belongs to the fast channel, the octets of the slow channel are all
-pub managed_slow : (Y x w : ℕ) (a : Announce) → is_fast_place a.pointer x ≡ false → ((y : ℕ) → y < Y → is_slow_place a.hdlc x y ≡ nat_lt y w) → (y : ℕ) → y < Y → is_managed_place a x y ≡ nat_lt y w
+pub managed_slow : (Y x w : ℕ) (a : Announce) → is_fast_place a.pointer x ≡ false →
+    ((y : ℕ) → y < Y → is_slow_place a.hdlc x y ≡ nat_lt y w) → (y : ℕ) → y < Y →
+    is_managed_place a x y ≡ nat_lt y w
 managed_slow Y x w a f s y h = alone (is_slow_place a.hdlc x y) (is_fast_place a.pointer x) (nat_lt y w) f (s y h)
   where
     alone : (slow fast b : Bool) → fast ≡ false → slow ≡ b → (slow || fast) ≡ b
@@ -110,7 +114,8 @@ managed_slow Y x w a f s y h = alone (is_slow_place a.hdlc x y) (is_fast_place a
     alone false fast b f s = f ∙ s
 
 -- where the octets belong to the fast channel, they are all
-pub managed_fast : (Y x : ℕ) (a : Announce) → is_fast_place a.pointer x ≡ true → (y : ℕ) → y < Y → is_managed_place a x y ≡ nat_lt y Y
+pub managed_fast : (Y x : ℕ) (a : Announce) → is_fast_place a.pointer x ≡ true → (y : ℕ) → y < Y →
+    is_managed_place a x y ≡ nat_lt y Y
 managed_fast Y x a f y h = all (is_slow_place a.hdlc x y) (is_fast_place a.pointer x) f ∙ within y Y h
   where
     all : (slow fast : Bool) → fast ≡ true → (slow || fast) ≡ true

@@ -21,7 +21,8 @@ pub channel_octet : (Y x y : ℕ) (a : Announce) (managed : List ℕ) → length
     cond (is_managed_place a x y) (slice_index managed (managed_before y x a)) 0 ≡ slice_index managed y
 channel_octet Y x y a managed l h = by_test (is_managed_place a x y) (managed_first Y x y a h)
   where
-    by_test : (b : Bool) → b ≡ nat_lt y (managed_before Y x a) → cond b (slice_index managed (managed_before y x a)) 0 ≡ slice_index managed y
+    by_test : (b : Bool) → b ≡ nat_lt y (managed_before Y x a) →
+        cond b (slice_index managed (managed_before y x a)) 0 ≡ slice_index managed y
     by_test true e =
         let k : y < managed_before Y x a = grind (arith, nat_tests) in
         ap (slice_index managed) (managed_rank Y x y a h k)
@@ -30,7 +31,8 @@ channel_octet Y x y a managed l h = by_test (is_managed_place a x y) (managed_fi
         sym (get_or_past managed y 0 k)
 
 -- behind the first octet
-pub later_octet : (Y x z bfn y : ℕ) (a : Announce) (managed : List ℕ) → length managed ≡ managed_before Y x a → y < Y → y ≢ 0 → x ≢ 0 →
+pub later_octet : (Y x z bfn y : ℕ) (a : Announce) (managed : List ℕ) →
+    length managed ≡ managed_before Y x a → y < Y → y ≢ 0 → x ≢ 0 →
     octet_of x z bfn a managed y ≡ slice_index managed y
 unfolding octet_of
 later_octet Y x z bfn y a managed l h ny nx =
@@ -63,7 +65,9 @@ slow_subchannel code x y h =
     by_choice (x % 64 ≡ 1) (code == 6) _ _ h (λ e. grind (arith, nat_tests)) (λ e. cc))))))
 
 -- the channels are in no subchannel with another use
-channel_subchannel : (slow fast : Bool) (x pointer : ℕ) → (slow ≡ true → x % 64 ≡ 1) → fast ≡ (nat_le 20 pointer && nat_le pointer (x % 64)) → (slow || fast) ≡ true → (x % 64 ≡ 1) ⊎ (20 ≤ x % 64)
+channel_subchannel : (slow fast : Bool) (x pointer : ℕ) → (slow ≡ true → x % 64 ≡ 1) →
+    fast ≡ (nat_le 20 pointer && nat_le pointer (x % 64)) → (slow || fast) ≡ true →
+    (x % 64 ≡ 1) ⊎ (20 ≤ x % 64)
 channel_subchannel true fast x pointer s f h = inl (s refl)
 channel_subchannel false fast x pointer s f h = inr (grind (arith, nat_tests))
 
@@ -72,7 +76,8 @@ pub managed_fits : (Y x : ℕ) (a : Announce) → managed_before Y x a ≤ Y
 managed_fits Y x a = omega (arith, count_by-le-length (is_managed_place a x) (range_with_len 0 Y), length-range_with_len 0 Y)
 
 -- the octets of the channels stand where they belong
-pub octet_of_channel : (Y x z bfn y : ℕ) (a : Announce) (managed : List ℕ) → length managed ≡ managed_before Y x a → y < Y → y < length managed →
+pub octet_of_channel : (Y x z bfn y : ℕ) (a : Announce) (managed : List ℕ) →
+    length managed ≡ managed_before Y x a → y < Y → y < length managed →
     octet_of x z bfn a managed y ≡ slice_index managed y
 octet_of_channel Y x z bfn y a managed l h k =
     let here : is_managed_place a x y ≡ true = managed_first Y x y a h ∙ grind (arith, nat_tests) in

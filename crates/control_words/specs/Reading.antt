@@ -35,4 +35,7 @@ announced Y control =
 
 -- Z and BFN
 abbrev pub numbers : ℕ → List ℕ → ℕ × ℕ
-numbers Y control = (control_octet Y control 64 0, control_octet Y control 128 0 + 256 * (control_octet Y control 192 0 % 16))
+numbers Y control =
+    let low = control_octet Y control 128 0 in
+    let high = control_octet Y control 192 0 % 16 in
+    (control_octet Y control 64 0, low + 256 * high)

@@ -3,8 +3,8 @@ ghost use Rattle.control_words.specs.Announcement.{allows_hdlc, allows_pointer};
 
 use thiserror::Error;
 
-/// What one end of a link announces to the other in its control words (CPRI Specification V7.0, sections 4.2.7.6
-/// and 4.2.7.7).
+/// What one end of a link announces to the other in its control words (CPRI Specification V7.0,
+/// sections 4.2.7.6 and 4.2.7.7).
 #[derive(Clone, Copy, Debug, PartialEq, Eq)]
 pub struct Announce {
     /// The protocol version, which is 1.

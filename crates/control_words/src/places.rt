@@ -5,8 +5,7 @@ ghost use Rattle.control_words.specs.Places.{is_slow_place, is_fast_place, is_ma
 
 use crate::Announce;
 
-/// The number of words in which a subchannel recurs: the subchannel of word X is X mod 64 (CPRI Specification V7.0,
-/// section 4.2.7.4).
+/// The number of subchannels: that of word X is X mod 64 (CPRI Specification V7.0, section 4.2.7.4).
 const SUBCHANNELS: u8 = 64;
 
 /// How many octets of word `x` belong to the slow channel. They are its first.

@@ -72,10 +72,13 @@ pub fn numbers_of<const Y: usize>(control: &[u8]) -> (u8, u16)
     (first_octet::<Y>(control, 64), low + 256 * high)
 }
 
-/// A hyperframe's control words are read as they were written: whatever the management channels carry, they announce
-/// what was announced in them, and have the Z and BFN of each of their frames.
+/// A hyperframe's control words are read as they were written: whatever the management channels
+/// carry, they announce what was announced in them, and have the Z and BFN of each of their frames.
 pub fn announcement_is_read_back<const Y: usize>()
     requires { IsWordSize Y }
-    ensures announced { (h : ℕ) (a : Announce) (managed : ℕ → List ℕ) → IsWithinTable Y a → announced Y (words_of_hyperframe Y h a managed) ≡ Ok a }
-    ensures numbers { (h x : ℕ) (a : Announce) (managed : ℕ → List ℕ) → x < 256 → numbers Y (words_of_hyperframe Y h a managed) ≡ (frame_z (256 * h + x), frame_bfn (256 * h + x)) }
+    ensures announced { (h : ℕ) (a : Announce) (managed : ℕ → List ℕ) → IsWithinTable Y a
+        → announced Y (words_of_hyperframe Y h a managed) ≡ Ok a }
+    ensures numbers { (h x : ℕ) (a : Announce) (managed : ℕ → List ℕ) → x < 256
+        → numbers Y (words_of_hyperframe Y h a managed)
+        ≡ (frame_z (256 * h + x), frame_bfn (256 * h + x)) }
 {}

@@ -34,7 +34,7 @@ fn compare_word<const Y: usize>(rt: &impl Abort, n: u64, a: Announce, channels: 
     assert_eq!(rt; control_word::<Y>(n, a, channels).as_slice(), word);
 }
 
-/// Compares words of one hyperframe: each row has X, what the channels carry in that word, and the word.
+/// Compares words of one hyperframe. Each row has X, what the channels carry in the word, and the word.
 fn compare_words<const Y: usize>(rt: &impl Abort, a: Announce, rows: &[(u8, &[u8], &[u8])])
     requires size { IsWordSize Y }
     requires within { IsWithinTable Y a }
@@ -159,7 +159,8 @@ fn octets_of_the_channels(rt: HostRuntime) {
     }
 }
 
-/// What control words of five octets announce, some octets of them changed: each row has X, the place in the word and the octet.
+/// What control words of five octets announce with some octets changed. Each row has X, the place in
+/// the word and the octet.
 fn answer(changes: &[(usize, usize, u8)]) -> Result<Announce, BadControl> {
     let mut control = [0; 1280];
     let start = [

@@ -51,14 +51,16 @@ fn octet_at<const Y: usize>(place: FramePlace, y: usize, a: Announce, managed: &
     }
 }
 
-/// The `Y` octets of the control word of basic frame `n`, with the octets of the management channels in order.
+/// The `Y` octets of the control word of basic frame `n`. `managed` has those of its octets that belong
+/// to the management channels, in order.
 pub fn control_word<const Y: usize>(n: u64, a: Announce, managed: &[u8]) -> ArrayVec<u8, 16>
     requires size { IsWordSize Y }
     requires within { IsWithinTable Y a }
     requires managed { length managed.now ≡ managed_before Y (frame_x n) a }
     ensures word { result.items ≡ word Y n a managed.now }
     // What the channels carry stands first.
-    ensures channels { (y : ℕ) → y < length managed.now → slice_index result.items y ≡ slice_index managed.now y }
+    ensures channels { (y : ℕ) → y < length managed.now
+        → slice_index result.items y ≡ slice_index managed.now y }
 {
     let place = place_of(n);
     let mut word = ArrayVec::new();

@@ -5,7 +5,7 @@ use Rattle.std.proofs.Math.Seq.{take-append_seam}
 use Rattle.std.proofs.lemmas.Bool.Decides.{nat_tests}
 use Rattle.roe_header.specs.declared.packet.Packet.{Packet}
 use Rattle.roe_header.specs.declared.packet.NotRoe.{NotRoe}
-use Rattle.roe_header.specs.Layout.{Fields, IsWritable, header, packet_octets, is_subtype, two_at, four_at, parsed, fields, answered, BeginsWith}
+use Rattle.roe_header.specs.Layout.{Fields, IsWritable, header, packet_octets, is_subtype, two_at, parsed, fields_at, fields, answered, BeginsWith}
 
 -- an address is six octets
 pub record SixOctets (xs : List ℕ) : Type 0 where
@@ -28,14 +28,16 @@ six (a ∷ b ∷ c ∷ d ∷ e ∷ []) h = absurd (omega arith)
 six (a ∷ b ∷ c ∷ d ∷ e ∷ f ∷ g ∷ xs) h = absurd (omega arith)
 
 -- what is chosen where the octets are as many as they say
-long_enough : {A : Type 0} (total said : ℕ) (short long found : A) → 22 + said ≤ total → cond (nat_lt total 22) short (cond (nat_lt (total - 22) said) long found) ≡ found
+long_enough : {A : Type 0} (total said : ℕ) (short long found : A) → 22 + said ≤ total →
+    cond (nat_lt total 22) short (cond (nat_lt (total - 22) said) long found) ≡ found
 long_enough total said short long found h =
     let e : nat_lt total 22 ≡ false = grind (arith, nat_tests) in
     let k : nat_lt (total - 22) said ≡ false = grind (arith, nat_tests) in
     rw (e, k) refl
 
 -- a packet whose addresses are given by their octets
-read_cells : (a b c d e f g h i j k l sub flow seq : ℕ) (payload rest : List ℕ) → IsTrue (is_subtype sub) → seq < 2 ^ 32 → length payload ≤ 1492 →
+read_cells : (a b c d e f g h i j k l sub flow seq : ℕ) (payload rest : List ℕ) → IsTrue (is_subtype sub) →
+    seq < 2 ^ 32 → length payload ≤ 1492 →
     parsed ((header (record { dst = a ∷ b ∷ c ∷ d ∷ e ∷ f ∷ []; src = g ∷ h ∷ i ∷ j ∷ k ∷ l ∷ []; sub = sub; flow = flow; seq = seq; payload = payload }) ++ payload) ++ rest)
     ≡ Ok (record { dst = a ∷ b ∷ c ∷ d ∷ e ∷ f ∷ []; src = g ∷ h ∷ i ∷ j ∷ k ∷ l ∷ []; sub = sub; flow = flow; seq = seq; payload = payload })
 unfolding parsed
@@ -49,7 +51,8 @@ read_cells a b c d e f g h i j k l sub flow seq payload rest s q p =
     rw (said, order, allowed, whole) (long_enough (length octets) (length payload) _ _ _ enough)
 
 -- and one whose addresses have six octets
-read_fields : (dst src : List ℕ) (sub flow seq : ℕ) (payload rest : List ℕ) → length dst ≡ 6 → length src ≡ 6 → IsTrue (is_subtype sub) → seq < 2 ^ 32 → length payload ≤ 1492 →
+read_fields : (dst src : List ℕ) (sub flow seq : ℕ) (payload rest : List ℕ) → length dst ≡ 6 →
+    length src ≡ 6 → IsTrue (is_subtype sub) → seq < 2 ^ 32 → length payload ≤ 1492 →
     parsed ((header (record { dst = dst; src = src; sub = sub; flow = flow; seq = seq; payload = payload }) ++ payload) ++ rest)
     ≡ Ok (record { dst = dst; src = src; sub = sub; flow = flow; seq = seq; payload = payload })
 read_fields dst src sub flow seq payload rest ld ls s q p =
@@ -84,8 +87,9 @@ header_cells c0 c1 c2 c3 c4 c5 c6 c7 c8 c9 c10 c11 c12 c13 c14 c15 c16 c17 c18 c
     rw (e12, e13, l1, l0, s3, s2, s1, s0) refl
 
 -- the octets before the payload, the payload and what follows are all octets
-begins : (octets : List ℕ) → 22 + two_at octets 16 ≤ length octets → ((i : ℕ) → slice_index octets i < 256) → two_at octets 12 ≡ 64573 →
-    octets ≡ (header (record { dst = take 6 octets; src = take 6 (drop 6 octets); sub = slice_index octets 14; flow = slice_index octets 15; seq = four_at octets 18; payload = take (two_at octets 16) (drop 22 octets) })
+begins : (octets : List ℕ) → 22 + two_at octets 16 ≤ length octets → ((i : ℕ) → slice_index octets i < 256) →
+    two_at octets 12 ≡ 64573 →
+    octets ≡ (header (fields_at octets)
     ++ take (two_at octets 16) (drop 22 octets)) ++ drop (two_at octets 16) (drop 22 octets)
 begins (c0 ∷ c1 ∷ c2 ∷ c3 ∷ c4 ∷ c5 ∷ c6 ∷ c7 ∷ c8 ∷ c9 ∷ c10 ∷ c11 ∷ c12 ∷ c13 ∷ c14 ∷ c15 ∷ c16 ∷ c17 ∷ c18 ∷ c19 ∷ c20 ∷ c21 ∷ xs) h b type =
     let said = 256 * c16 + c17 in
@@ -97,28 +101,31 @@ begins (c0 ∷ c1 ∷ c2 ∷ c3 ∷ c4 ∷ c5 ∷ c6 ∷ c7 ∷ c8 ∷ c9 ∷ c1
 begins _ h b type = absurd (omega arith)
 
 -- which way a choice went that is no error
-passed : {A E : Type 0} (b : Bool) (r : Result A E) (e : E) (x : A) → cond b r (Err e) ≡ Ok x → (b ≡ true) × (r ≡ Ok x)
+passed : {A E : Type 0} (b : Bool) (r : Result A E) (e : E) (x : A) → cond b r (Err e) ≡ Ok x →
+    (b ≡ true) × (r ≡ Ok x)
 passed true r e x h = (refl, h)
 passed false r e x h = cc
 
-not_failed : {A E : Type 0} (b : Bool) (r : Result A E) (e : E) (x : A) → cond b (Err e) r ≡ Ok x → (b ≡ false) × (r ≡ Ok x)
+not_failed : {A E : Type 0} (b : Bool) (r : Result A E) (e : E) (x : A) → cond b (Err e) r ≡ Ok x →
+    (b ≡ false) × (r ≡ Ok x)
 not_failed true r e x h = cc
 not_failed false r e x h = (refl, h)
 
 -- what is read stands so in the octets
-stands : (octets : List ℕ) (f : Fields) → ((i : ℕ) → slice_index octets i < 256) → parsed octets ≡ Ok f → BeginsWith f octets
+stands : (octets : List ℕ) (f : Fields) → ((i : ℕ) → slice_index octets i < 256) → parsed octets ≡ Ok f →
+    BeginsWith f octets
 unfolding parsed
 stands octets f b h =
     let long = not_failed (nat_lt (length octets) 22) _ _ f h in
     let kind = passed (two_at octets 12 == 64573) _ _ f long.1 in
     let sub = passed (is_subtype (slice_index octets 14)) _ _ f kind.1 in
     let whole = not_failed (nat_lt (length octets - 22) (two_at octets 16)) _ _ f sub.1 in
-    let found : Fields = record { dst = take 6 octets; src = take 6 (drop 6 octets); sub = slice_index octets 14; flow = slice_index octets 15; seq = four_at octets 18; payload = take (two_at octets 16) (drop 22 octets) } in
     let type : two_at octets 12 ≡ 64573 = grind (arith, nat_tests, kind.0) in
     let enough : 22 + two_at octets 16 ≤ length octets = grind (arith, nat_tests, long.0, whole.0) in
-    let same : found ≡ f = cc (whole.1) in
+    let same : fields_at octets ≡ f = cc (whole.1) in
     subst (λ (g : Fields). BeginsWith g octets) same (drop (two_at octets 16) (drop 22 octets), begins octets enough b type)
 
-pub found_by : (r : Result Packet NotRoe) (octets : List ℕ) → ((i : ℕ) → slice_index octets i < 256) → answered r ≡ parsed octets → IfOk r (λ p. BeginsWith (fields p) octets)
+pub found_by : (r : Result Packet NotRoe) (octets : List ℕ) → ((i : ℕ) → slice_index octets i < 256) →
+    answered r ≡ parsed octets → IfOk r (λ p. BeginsWith (fields p) octets)
 found_by (Ok p) octets b h = stands octets (fields p) b (sym h)
 found_by (Err e) octets b h = tt

@@ -1,6 +1,7 @@
 -- The octets of a Radio-over-Ethernet packet: the addresses and the EtherType of an Ethernet frame without its FCS
 -- (IEEE 802.3, clause 3), then the RoE common header (IEEE 1914.3-2018), then the payload, then zeros up to the least
--- length of an Ethernet frame. That the length counts the payload, and which subtypes are read, are this project's own.
+-- length of an Ethernet frame. That the length counts the payload alone, and which subtypes are read, are this
+-- project's own choice.
 use Rattle.std.specs.Prelude.{ℕ, ◌+◌, ◌-◌, ◌*◌, ◌/◌, ◌%◌, ◌<◌, ◌≤◌, ◌≡◌, List, [], ◌∷◌, ◌++◌, length, take, drop, replicate, slice_index, Bool, ◌==◌, ◌||◌, nat_lt, IsTrue, ◌^◌, if◌then◌else◌, Result, Ok, Err}
 use Rattle.roe_header.specs.declared.packet.Packet.{Packet}
 use Rattle.roe_header.specs.declared.packet.NotRoe.{NotRoe}
@@ -27,7 +28,9 @@ four_octets n = n / 16777216 ∷ n / 65536 % 256 ∷ n / 256 % 256 ∷ n % 256 �
 
 -- the 22 octets before the payload
 abbrev pub header : Fields → List ℕ
-header f = f.dst ++ f.src ++ two_octets 64573 ++ f.sub ∷ f.flow ∷ [] ++ two_octets (length f.payload) ++ four_octets f.seq
+header f =
+    f.dst ++ f.src ++ two_octets 64573 ++ f.sub ∷ f.flow ∷ [] ++ two_octets (length f.payload)
+    ++ four_octets f.seq
 
 -- all octets of the packet
 unfoldable pub packet_octets : Fields → List ℕ
@@ -54,23 +57,26 @@ two_at octets i = 256 * slice_index octets i + slice_index octets (i + 1)
 abbrev pub four_at : List ℕ → ℕ → ℕ
 four_at octets i = 65536 * two_at octets i + two_at octets (i + 2)
 
--- the packet at the front of the octets, or the first reason why there is none
+-- the fields of the packet at the front of the octets
+abbrev pub fields_at : List ℕ → Fields
+fields_at octets = record {
+  dst = take 6 octets;
+  src = take 6 (drop 6 octets);
+  sub = slice_index octets 14;
+  flow = slice_index octets 15;
+  seq = four_at octets 18;
+  payload = take (two_at octets 16) (drop 22 octets);
+}
+
+-- that packet, or the first reason why there is none
 unfoldable pub parsed : List ℕ → Result Fields NotRoe
 parsed octets =
-    let said = two_at octets 16 in
     let there = length octets - 22 in
     if nat_lt (length octets) 22 then Err (Short (length octets)) else (
     if two_at octets 12 == 64573 then (
     if is_subtype (slice_index octets 14) then (
-    if nat_lt there said then Err (Length said there) else
-    Ok (record {
-      dst = take 6 octets;
-      src = take 6 (drop 6 octets);
-      sub = slice_index octets 14;
-      flow = slice_index octets 15;
-      seq = four_at octets 18;
-      payload = take said (drop 22 octets);
-    }))
+    if nat_lt there (two_at octets 16) then Err (Length (two_at octets 16) there)
+    else Ok (fields_at octets))
     else Err (SubType (slice_index octets 14)))
     else Err (EtherType (two_at octets 12)))
 

@@ -1,6 +1,6 @@
 use thiserror::Error;
 
-/// Octets before the payload: two addresses, the EtherType and the RoE common header (IEEE 1914.3-2018).
+/// Octets before the payload: the addresses, the EtherType and the RoE header (IEEE 1914.3-2018).
 pub(crate) const HEADER: usize = 22;
 /// The EtherType of Radio over Ethernet.
 pub(crate) const ETHER_TYPE: u16 = 0xFC3D;
@@ -12,7 +12,7 @@ pub struct Packet<'a> {
     pub dst: [u8; 6],
     /// The source address.
     pub src: [u8; 6],
-    /// The subtype: 2 for frames as octets or symbols, 3 for their parts, 4 for slow management frames.
+    /// The subtype: 2 for frames whole, as octets or symbols, 3 for their parts, 4 for slow C&M.
     pub sub: u8,
     /// The flow id.
     pub flow: u8,

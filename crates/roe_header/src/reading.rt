@@ -71,7 +71,8 @@ fn packet_of(octets: &[u8]) -> Result<Packet<'_>, NotRoe>
     })
 }
 
-/// The packet at the front of an Ethernet frame's octets, its payload lent. Octets behind the payload are read past.
+/// The packet at the front of an Ethernet frame's octets, its payload lent. Octets behind the payload
+/// are read past.
 pub fn parse(octets: &[u8]) -> Result<Packet<'_>, NotRoe>
     ensures exact { answered result ≡ parsed octets.now }
     // What is read stands so in the octets.
@@ -82,5 +83,6 @@ pub fn parse(octets: &[u8]) -> Result<Packet<'_>, NotRoe>
 
 /// What was written is read again, whatever octets follow it.
 pub fn packet_is_read_back()
-    ensures { (f : Fields) (rest : List ℕ) → IsWritable f → parsed (packet_octets f ++ rest) ≡ Ok f }
+    ensures { (f : Fields) (rest : List ℕ) → IsWritable f
+        → parsed (packet_octets f ++ rest) ≡ Ok f }
 {}

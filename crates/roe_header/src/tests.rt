@@ -8,7 +8,7 @@ const FRONT: [u8; 18] = [
     0x02, 0, 0, 0, 0, 0x01, 0x02, 0, 0, 0, 0, 0x02, 0xFC, 0x3D, 0x02, 0x07, 0x00, 0x10,
 ];
 
-/// Compares a packet of this flow with the octets `FRONT`, then `seq`, then three octets, and zeros up to 60.
+/// Compares a packet of this flow with the octets `FRONT`, then `seq` and three octets, then zeros.
 fn compare_packet(rt: &impl Abort, seq: [u8; 4], first: [u8; 3]) {
     let mut octets = [0; 60];
     octets[..18].copy_from_slice(&FRONT);

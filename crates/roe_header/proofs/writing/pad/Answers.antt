@@ -3,7 +3,8 @@ use Rattle.std.proofs.lemmas.List.{take-replicate}
 use Rattle.roe_header.proofs.writing.pad.Goals as goal
 
 -- the zeros behind what is written
-append_zeros : (written new : List ℕ) (len n : ℕ) → len ≡ n → new ≡ written ++ take (60 - len) (replicate 60 0) → new ≡ written ++ replicate (60 - n) 0
+append_zeros : (written new : List ℕ) (len n : ℕ) → len ≡ n →
+    new ≡ written ++ take (60 - len) (replicate 60 0) → new ≡ written ++ replicate (60 - n) 0
 append_zeros written new len n e h =
     let zeros : take (60 - len) (replicate 60 0) ≡ replicate (60 - len) 0 = take-replicate (60 - len) 60 0 (omega arith) in
     h ∙ ap (λ (xs : List ℕ). written ++ xs) (zeros ∙ ap (λ (k : ℕ). replicate (60 - k) 0) e)
