@@ -1,0 +1,8 @@
+//! Lines of a feed, and the numbers and hexadecimal digits in them.
+#![tactic(auto)]
+
+mod digits;
+mod numbers;
+
+pub use digits::{digits_are_read_back, octets, put_hex};
+pub use numbers::{decimal, decimal_is_read_back, put_number, signed, signed_is_read_back};
