@@ -1,2 +1,6 @@
 pub mod DecimalLemmas
 pub mod HexadecimalLemmas
+pub mod Advances
+pub mod Answered
+pub mod LineLemmas
+pub mod Refills

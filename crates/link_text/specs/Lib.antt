@@ -1,2 +1,4 @@
 pub mod Decimals
 pub mod Hexadecimal
+pub mod Lines
+pub mod LineBuffer

@@ -1,8 +1,11 @@
 //! Lines of a feed, and the numbers and hexadecimal digits in them.
 #![tactic(auto)]
 
+mod buffer;
 mod digits;
+mod lines;
 mod numbers;
 
 pub use digits::{digits_are_read_back, octets, put_hex};
+pub use lines::{Line, LineReader};
 pub use numbers::{decimal, decimal_is_read_back, put_number, signed, signed_is_read_back};
