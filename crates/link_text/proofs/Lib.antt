@@ -3,4 +3,5 @@ pub mod HexadecimalLemmas
 pub mod Advances
 pub mod Answered
 pub mod LineLemmas
+pub mod LinesOf
 pub mod Refills

@@ -1,5 +1,5 @@
 -- The lines of a file, and what a reader of them answers. Lines end with a line feed, 10. Their greatest length is this project's own.
-use Rattle.std.specs.Prelude.{◌≡◌, ◌≢◌, ◌==◌, ℕ, ◌+◌, ◌<◌, ◌≤◌, IsTrue, List, [], ◌∷◌, ◌++◌, length, take, All, Option, Some, None, MatchOption}
+use Rattle.std.specs.Prelude.{◌≡◌, ◌≢◌, ◌==◌, ℕ, ◌+◌, ◌<◌, ◌≤◌, IsTrue, List, [], ◌∷◌, ◌++◌, length, take, flat_map, All, Option, Some, None, MatchOption}
 use Rattle.std.specs.List.{slice_split}
 use Rattle.link_base.specs.Faults.{Rose}
 use Rattle.link_base.specs.Shelf.{Shown}
@@ -27,6 +27,10 @@ lines_of octets = all_but_last (slice_split (λ c. c == 10) octets)
 abbrev pub rest_of : List ℕ → List ℕ
 rest_of octets = last_part (slice_split (λ c. c == 10) octets)
 
+-- the lines, each with its line feed
+abbrev pub with_feeds : List (List ℕ) → List ℕ
+with_feeds lines = flat_map (λ line. line ++ 10 ∷ []) lines
+
 -- there is no line feed
 abbrev pub HasNoFeed : List ℕ → Type 0
 HasNoFeed octets = All (λ c. c ≢ 10) octets
@@ -49,6 +53,14 @@ ending_of line.End = Some ending.End
 ending_of line.TooLong = Some ending.TooLong
 ending_of line.Unended = Some ending.Unended
 ending_of line.Failed = Some ending.Failed
+
+-- the line that an answer gives
+abbrev pub text_of : Line → Option (List ℕ)
+text_of (line.Text text) = Some text.now
+text_of line.End = None
+text_of line.TooLong = None
+text_of line.Unended = None
+text_of line.Failed = None
 
 -- a text that is given as a line
 abbrev pub IsLine : List ℕ → Type 0
