@@ -48,3 +48,11 @@ pub shows_ending : (old : Reading) (before after : Shown) (result : Option Endin
 shows_ending old before after result e answer fresh is answers shows =
     let shown : ShowsEnding before after (ending_of answer) = subst (ShowsEnding before after) (is ∙ sym answers) shows in
     rw fresh shown
+
+-- and back
+pub Stops-answer : (hand rest : List ℕ) (answer : Line) (e : Ending) → ending_of answer ≡ Some e → Gives hand rest answer → Stops hand rest e
+Stops-answer hand rest (line.Text text) e is gives = cc
+Stops-answer hand rest line.End e is gives = subst (Stops hand rest) (sym (same_ending ending.End e is)) gives
+Stops-answer hand rest line.TooLong e is gives = subst (Stops hand rest) (sym (same_ending ending.TooLong e is)) gives
+Stops-answer hand rest line.Unended e is gives = subst (Stops hand rest) (sym (same_ending ending.Unended e is)) gives
+Stops-answer hand rest line.Failed e is gives = subst (Stops hand rest) (sym (same_ending ending.Failed e is)) gives

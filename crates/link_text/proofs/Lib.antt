@@ -4,4 +4,5 @@ pub mod Advances
 pub mod Answered
 pub mod LineLemmas
 pub mod LinesOf
+pub mod Next
 pub mod Refills
