@@ -1,3 +1,4 @@
 pub mod Range
 pub mod Offers
 pub mod End
+pub mod World

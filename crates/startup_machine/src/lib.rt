@@ -2,11 +2,18 @@
 #![tactic(auto)]
 
 mod caps;
+mod crowded;
 mod end;
+mod event;
 mod offer;
+mod side;
 mod state;
+mod world;
 
 pub use caps::Caps;
+pub use crowded::Crowded;
 pub use end::End;
+pub use event::Event;
 pub use offer::Offer;
 pub use state::State;
+pub use world::World;
