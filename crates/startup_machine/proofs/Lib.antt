@@ -1,2 +1,5 @@
 pub mod Queues
 pub mod Steps
+pub mod Meets
+pub mod Agreements
+pub mod Capabilities

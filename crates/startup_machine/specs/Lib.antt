@@ -2,3 +2,4 @@ pub mod Range
 pub mod Offers
 pub mod End
 pub mod World
+pub mod Agreement

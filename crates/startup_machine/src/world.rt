@@ -1,6 +1,7 @@
 ghost use Rattle.std.specs.Prelude.{◌≡◌, ◌<◌, ◌↔◌, IsTrue, IfOk, IsErr, OnErr, IfErr};
 ghost use Rattle.startup_machine.specs.Offers.{greatest_offer};
 ghost use Rattle.startup_machine.specs.World.{begun, is_crowded, step, end_name, side_of, happens, is_refused};
+ghost use Rattle.startup_machine.specs.Agreement.{Agreed, goes_on};
 
 use crate::side::Side;
 use crate::{Caps, Crowded, Event, Offer, State};
@@ -58,7 +59,8 @@ fn take_step(near: &mut Side, far: &mut Side, event: Event) -> Result<(), Crowde
 impl World {
     /// Two new ends, with room for 4,096 announcements on their way to each. No later call takes memory.
     pub fn begin(alloc: Global, one: Caps, two: Caps) -> Result<World, NoMemory>
-        ensures { IfOk result (λ w. w ≡ begun (greatest_offer one) (greatest_offer two)) }
+        ensures begun { IfOk result (λ w. w ≡ begun (greatest_offer one) (greatest_offer two)) }
+        ensures agreed { IfOk result Agreed }
     {
         let one = Side::begin(alloc, one)?;
         let two = Side::begin(alloc, two)?;
@@ -73,6 +75,7 @@ impl World {
         ensures held { IfErr result (λ c. c.held ≡ 4096) }
         ensures refused { OnErr result (self.new ≡ self.old) }
         ensures step { self.new ≡ happens (end_name end) event self.old }
+        ensures agreed { IsTrue (goes_on event) → Agreed self.old → Agreed self.new }
     {
         if end == 0 {
             take_step(&mut self.one, &mut self.two, event)
