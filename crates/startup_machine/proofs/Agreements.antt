@@ -48,7 +48,7 @@ Lowers-kept_up : (e f : EndView) (o : Offer) → HoldsFor e f → Lowers f e (ke
 Lowers-kept_up e f o held =
     by_cases (Lowers f e) (is_same_offer o e.offer) e (setting_up e o) (λ _. unmoved e f held) (λ _. Lowers-setting_up e f o)
 
-first_true : (a b : Bool) → a && b ≡ true → a ≡ true
+pub first_true : (a b : Bool) → a && b ≡ true → a ≡ true
 first_true true b h = refl
 first_true false b h = h
 
@@ -102,7 +102,7 @@ KeepBoth-coming near far coming change keep = (
   record { on_way = change keep.1.on_way; own = keep.1.own; held = keep.1.held },
 )
 
-past_before_start : (state : State) → IsPastSetup (state_after_start state) → IsPastSetup state
+pub past_before_start : (state : State) → IsPastSetup (state_after_start state) → IsPastSetup state
 past_before_start A past = past
 past_before_start B past = past
 past_before_start C past = past
@@ -111,7 +111,7 @@ past_before_start E past = past
 past_before_start F past = past
 past_before_start G past = past
 
-past_before_agreement : (state : State) → IsPastSetup (state_after_agreement state) → IsPastSetup state
+pub past_before_agreement : (state : State) → IsPastSetup (state_after_agreement state) → IsPastSetup state
 past_before_agreement A past = past
 past_before_agreement B past = past
 past_before_agreement C past = past

@@ -3,3 +3,4 @@ pub mod Steps
 pub mod Meets
 pub mod Agreements
 pub mod Capabilities
+pub mod Histories

@@ -3,3 +3,4 @@ pub mod Offers
 pub mod End
 pub mod World
 pub mod Agreement
+pub mod History

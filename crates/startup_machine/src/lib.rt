@@ -15,7 +15,7 @@ pub use caps::Caps;
 pub use crowded::Crowded;
 pub use end::End;
 pub use event::Event;
-pub use laws::agreement_is_kept;
+pub use laws::{agreement_is_kept, offers_were_made};
 pub use offer::Offer;
 pub use state::State;
 pub use world::World;
