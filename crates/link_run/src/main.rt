@@ -38,3 +38,6 @@ fn main(rt: HostRuntime) -> ExitCode {
     let _ = people::explain(&rt, words.as_slice(), &status, &shelf);
     ExitCode::from(code(&status))
 }
+
+#[cfg(test)]
+mod tests;
