@@ -90,10 +90,8 @@ impl End {
         ensures { self.new ≡ with_meet self.old heard }
     {
         let met = self.offer.meet(heard);
-        if met != self.offer {
-            self.offer = met;
-            self.told = false;
-        }
+        self.told = self.told && met == self.offer;
+        self.offer = met;
     }
 
     /// Takes the meet, and sets the channels up anew.
@@ -139,21 +137,16 @@ impl End {
             hdlc: a.hdlc,
             pointer: a.pointer,
         };
+        let is_known = a.version == VERSION;
         match self.state {
             State::A => {}
             State::B => self.state = State::C,
-            State::C => {
-                if a.version == VERSION {
-                    self.negotiate(offer);
-                }
-            }
-            _ if a.version != VERSION => self.state = State::C,
+            State::C if is_known => self.negotiate(offer),
+            State::C => {}
+            _ if !is_known => self.state = State::C,
             State::D => self.set_up(offer),
-            State::E | State::F | State::G => {
-                if offer != self.offer {
-                    self.negotiate(offer);
-                }
-            }
+            _ if offer != self.offer => self.negotiate(offer),
+            State::E | State::F | State::G => {}
         }
     }
 
@@ -196,3 +189,6 @@ impl End {
         self.offer
     }
 }
+
+#[cfg(test)]
+mod tests;

@@ -93,3 +93,6 @@ impl World {
         (side.end.state(), side.end.offer())
     }
 }
+
+#[cfg(test)]
+mod tests;
