@@ -1,5 +1,5 @@
 -- The promise of `check`, from what each of its steps leaves.
-use Rattle.std.proofs.Common.{IsTrue, ◌≡◌, ◌≢◌, ◌+◌, ◌≤◌, ◌<◌, ◌⊎◌, inl, inr, ◌∷◌, ◌++◌, [], ℕ, zero, suc, List, Bool, true, false, length, take, length-take, arith, refl, sym, ap, subst, ◌∙◌, Option, Some, None, Result, Ok, Err, append-nil, cond, get_or, min}
+use Rattle.std.proofs.Common.{IsTrue, ◌≡◌, ◌≢◌, ◌≤◌, ◌<◌, ◌⊎◌, inl, inr, ◌∷◌, [], ℕ, zero, suc, List, true, false, length, take, length-take, arith, refl, sym, ap, subst, ◌∙◌, Option, Some, None, Result, Ok, Err, append-nil, get_or}
 use Rattle.std.specs.Prelude.{Contains, nat_lt}
 use Rattle.std.specs.FinMap.{get}
 use Rattle.std.proofs.lemmas.Bool.{cases_lt, cond-true, lt-ltb}
@@ -13,7 +13,7 @@ use Rattle.carrier_plan.specs.declared.fault.PlanText as fault
 use Rattle.carrier_plan.specs.declared.fault.PlanText.TheVariants.{Long}
 use Rattle.link_run.specs.declared.status.Status.{Status}
 use Rattle.link_run.specs.declared.status.Status.TheVariants.{Done, No, Usage, PlanText, ReadFault, WriteFault, NoMemory}
-use Rattle.link_run.specs.Form.{Form, check}
+use Rattle.link_run.specs.Form.{check}
 use Rattle.link_run.specs.Answer.{IsVerdict, IsPlanAnswer, IsCheckAnswer}
 use Rattle.link_run.specs.PlanFile.{plan_limit, IsPlanFile, FailsAtFile}
 use Rattle.link_run.specs.Given.{IsWhole, IsCut, IsVerdictGiven}

@@ -1,7 +1,7 @@
 -- A buffer that is filled by one read after another.
-use Rattle.std.proofs.Common.{IsTrue, ◌≡◌, ◌+◌, ◌-◌, ◌≤◌, ◌<◌, ◌++◌, [], ℕ, List, length, take, drop, min, length-take, length-drop, length-append, arith, refl, sym, ap, subst, ◌∙◌, append_assoc, append-nil}
+use Rattle.std.proofs.Common.{IsTrue, ◌≡◌, ◌+◌, ◌-◌, ◌≤◌, ◌++◌, ℕ, List, length, take, drop, length-drop, length-append, arith, refl, sym, ap, subst, ◌∙◌, append_assoc, append-nil}
 use Rattle.std.proofs.Math.Seq.{take-add}
-use Rattle.std.proofs.lemmas.List.{take_at, drop_at, drop_all, drop-drop, length-take-le, take_rest}
+use Rattle.std.proofs.lemmas.List.{take_at, drop_at, drop_all, drop-drop, length-take-le}
 use borrow.Rule.Slice.PartMut.{put_mid}
 use Rattle.link_base.specs.Shelf.{Shown, SameFiles, Takes}
 use Rattle.link_run.specs.PlanFile.{FillsTo}

@@ -1,10 +1,10 @@
 -- A file that is selected and then read.
-use Rattle.std.proofs.Common.{IsTrue, ◌≡◌, ◌+◌, ◌≤◌, ◌<◌, ◌⊎◌, inl, inr, ◌++◌, [], ℕ, List, Bool, true, false, length, take, drop, length-append, arith, refl, sym, ap, subst, ◌∙◌, Option, Some, None, append-nil, cond}
+use Rattle.std.proofs.Common.{◌≡◌, ◌≤◌, ◌⊎◌, inl, inr, ◌++◌, [], ℕ, List, length, take, drop, arith, refl, sym, ap, subst, ◌∙◌, Option, Some, None, append-nil}
 use Rattle.std.specs.Prelude.{is_some, if◌then◌else◌}
-use Rattle.std.specs.FinMap.{get, contains_key}
+use Rattle.std.specs.FinMap.{get}
 use Rattle.std.proofs.lemmas.Bool.{cases_lt}
 use Rattle.std.proofs.lemmas.List.{drop_all, take_at, take_all, take-append-drop, length-take-le}
-use Rattle.link_base.specs.Shelf.{Files, Shown, SameFiles, Opens, FailsToOpen, held_name}
+use Rattle.link_base.specs.Shelf.{Files, Shown, Opens, FailsToOpen}
 use Rattle.link_base.specs.Faults.{Rose}
 use Rattle.link_run.specs.Promises.{Counts}
 use Rattle.link_run.specs.PlanFile.{plan_limit, IsPlanFile, Loads, FailsAtFile, Fills, FailsToFill}

@@ -1,8 +1,7 @@
 -- The promise of a call, from that of its form.
-use Rattle.std.proofs.Common.{IsTrue, ◌≡◌, ◌⊎◌, inl, inr, [], ℕ, List, refl, sym, ap, subst, ◌∙◌, Option, Some, None, Result, Ok, Err}
+use Rattle.std.proofs.Common.{IsTrue, ◌≡◌, inl, inr, [], ℕ, List, refl, ap, subst, Option, Some, None, Result, Ok, Err}
 use Rattle.std.specs.FinMap.{get}
-use Rattle.link_base.specs.Faults.{Rose}
-use Rattle.link_base.specs.Shelf.{Files, Shown, SameFiles}
+use Rattle.link_base.specs.Shelf.{Shown}
 use Rattle.link_base.specs.Sink.{Taken, Appends}
 use Rattle.carrier_plan.specs.PlanOf.{plan_of}
 use Rattle.carrier_plan.specs.declared.plan.Plan.{Plan}
@@ -13,7 +12,7 @@ use Rattle.link_run.specs.declared.status.Status.TheVariants.{Done, No, Usage, P
 use Rattle.link_run.specs.Form.{Form, check}
 use Rattle.link_run.specs.Printed.{yes_text, no_text}
 use Rattle.link_run.specs.Answer.{IsVerdict, IsPlanAnswer, IsCheckAnswer}
-use Rattle.link_run.specs.Promises.{Promises, Told, ChecksPlan, IsComplete, is_answer}
+use Rattle.link_run.specs.Promises.{Promises, ChecksPlan, IsComplete, is_answer}
 use Rattle.link_run.proofs.Loading.{counted_ok}
 use Rattle.link_run.proofs.Checking.{keeps}
 

@@ -1,7 +1,7 @@
 -- What reading a plan's file gives, and where it stands after a failure. This is the project's own.
-use Rattle.std.specs.Prelude.{◌≡◌, ◌⊎◌, ◌+◌, ◌<◌, ◌≤◌, [], ◌++◌, drop, ℕ, IsTrue, List, length, take, Some, None}
+use Rattle.std.specs.Prelude.{◌≡◌, ◌⊎◌, ◌+◌, ◌<◌, ◌≤◌, [], ◌++◌, drop, ℕ, List, length, take, Some, None}
 use Rattle.std.specs.FinMap.{get}
-use Rattle.link_base.specs.Shelf.{Files, Shown, held_name}
+use Rattle.link_base.specs.Shelf.{Files, Shown}
 
 -- the octets of a plan's file that are read at most
 abbrev pub plan_limit : ℕ

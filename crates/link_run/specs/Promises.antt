@@ -1,6 +1,6 @@
 -- What a call of the program promises of its text, its status and the outside. This is the project's own.
 -- A shelf or a sink that does not tell its content leaves the facts on content open, and the counts and causes as they are.
-use Rattle.std.specs.Prelude.{◌↔◌, ◌≡◌, ◌≢◌, ◌⊎◌, ◌+◌, ◌≤◌, ℕ, Bool, true, false, IsTrue, List, [], ◌∷◌, ◌++◌, length, Contains, Option, Some, None, Ok}
+use Rattle.std.specs.Prelude.{◌↔◌, ◌≡◌, ◌⊎◌, ◌+◌, ◌≤◌, ℕ, Bool, true, false, IsTrue, List, [], ◌∷◌, ◌++◌, length, Contains, Option, Some, None, Ok}
 use Rattle.std.specs.FinMap.{get}
 use Rattle.link_base.specs.Faults.{Rose}
 use Rattle.link_base.specs.Shelf.{Files, Shown, SameFiles}
@@ -10,7 +10,7 @@ use Rattle.carrier_plan.specs.PlanOf.{plan_of}
 use Rattle.plan_checker.specs.Rules.{IsGood, IsFirstFailure}
 use Rattle.link_run.specs.declared.status.Status.{Status}
 use Rattle.link_run.specs.declared.status.Status.TheVariants.{Done, No, Usage, PlanText, ReadFault, WriteFault, NoMemory}
-use Rattle.link_run.specs.Form.{Form, check, plan_names, feed_names, reached_names}
+use Rattle.link_run.specs.Form.{Form, plan_names, feed_names, reached_names}
 use Rattle.link_run.specs.Answer.{IsAnswer, IsSettled, IsGoodFront}
 use Rattle.link_run.specs.Printed.{yes_text, no_text}
 

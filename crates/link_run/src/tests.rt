@@ -227,6 +227,7 @@ fn the_pieces_do_not_matter(rt: HostRuntime) -> Result<(), Fail> {
     let plan = plan_of(rt.alloc(), TOP, CARRIER)?;
     let file = plan.as_str().as_bytes();
     for piece in [1, 2, 7, AMPLE] {
+        assert!(rt; piece > 0);
         let outcome = run_on(rt.alloc(), &["check", "a"], file, piece, YES.len(), None)?;
         assert_eq!(rt; outcome.status, Status::Done, "pieces of {piece}");
         assert_eq!(rt;

@@ -1,6 +1,5 @@
 use Rattle.std.proofs.Common.{refl, sym, subst}
 use Rattle.link_run.specs.PlanFile.{IsPlanFile}
-use Rattle.link_run.specs.Given.{IsVerdictGiven}
 use Rattle.link_run.proofs.Checking.{after_fault, after_verdict}
 use Rattle.link_run.proofs.check.check_plan.Goals as goal
 

@@ -1,4 +1,4 @@
-use Rattle.std.proofs.Common.{arith, ◌≡◌, ◌∙◌, ◌+◌, ◌-◌, ◌≤◌, length, length-drop, drop, sym, subst, ap, IsTrue}
+use Rattle.std.proofs.Common.{arith, ◌∙◌, ◌-◌, ◌≤◌, length, length-drop, sym, subst, ap, IsTrue}
 use Rattle.std.proofs.lemmas.List.{take_rest}
 use Rattle.link_run.proofs.Filling.{fills_more, files_stay, part_length}
 use Rattle.link_run.proofs.plan_file.fill.Goals as goal

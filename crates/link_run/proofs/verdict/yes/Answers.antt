@@ -1,6 +1,5 @@
-use Rattle.std.proofs.Common.{◌≡◌, ◌∙◌, ◌++◌, ap}
+use Rattle.std.proofs.Common.{◌∙◌, ◌++◌, ap}
 use Rattle.std.specs.Prelude.{codes}
-use Rattle.std.specs.List.{flat_map, range_with_len}
 use Rattle.link_run.specs.Printed.{ended, delay_line}
 use Rattle.link_run.proofs.Lines.{one_more_line}
 use Rattle.link_run.proofs.verdict.yes.Goals as goal
