@@ -1,4 +1,6 @@
 // Shelves and sinks in memory at their edges, and those of the system once.
+ghost use Rattle.std.specs.Prelude.{◌<◌};
+
 use crate::{Failed, FileShelf, MemShelf, MemSink, NoMemory, Shelf, Sink, StdSink, put_all};
 use std::alloc::Global;
 use std::test::Fail;
