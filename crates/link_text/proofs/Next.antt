@@ -36,8 +36,8 @@ pub gives_line : (old new : Reading) (before after : Shown) (answer : Line) (tex
 gives_line old new before after answer text fresh keeps is =
     let next : GivesNext old new before after (Text text) = subst (GivesNext old new before after) is (gives_next old new before after answer fresh keeps) in
     let all : IsTrue before.tells → old.rest ++ before.left ≡ text.now ++ 10 ∷ (new.rest ++ after.left) =
-      (λ tells. ap (λ left. old.rest ++ left) (next.took.left tells) ∙ sym (append_assoc old.rest next.octets after.left)
-        ∙ ap (λ hand. hand ++ after.left) next.gives.1 ∙ append_assoc text.now (10 ∷ new.rest) after.left) in record {
+    (λ tells. ap (λ left. old.rest ++ left) (next.took.left tells) ∙ sym (append_assoc old.rest next.octets after.left)
+    ∙ ap (λ hand. hand ++ after.left) next.gives.1 ∙ append_assoc text.now (10 ∷ new.rest) after.left) in record {
       octets = next.octets;
       took = next.took;
       is_line = next.gives.0;

@@ -41,7 +41,8 @@ fn put_digit(out: &mut ArrayVec<u8, 4096>, value: u8)
 /// Appends the hexadecimal digits of octets, letters in lower case.
 pub fn put_hex(out: &mut ArrayVec<u8, 4096>, octets: &[u8])
     requires { array_vec_len out.old + 2 * length octets.now ≤ 4096 }
-    ensures { out.new.items ≡ out.old.items ++ encode_lower octets.now }
+    ensures text { out.new.items ≡ out.old.items ++ encode_lower octets.now }
+    ensures len { array_vec_len out.new ≡ array_vec_len out.old + 2 * length octets.now }
 {
     for octet in octets {
         put_digit(out, *octet / 16);

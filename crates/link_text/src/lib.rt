@@ -11,3 +11,6 @@ pub use digits::{digits_are_read_back, octets, put_hex};
 pub use laws::{answer_is_exact, answer_is_that_of_the_file, file_is_its_lines};
 pub use lines::{Line, LineReader};
 pub use numbers::{decimal, decimal_is_read_back, put_number, signed, signed_is_read_back};
+
+#[cfg(test)]
+mod tests;

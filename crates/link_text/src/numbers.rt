@@ -49,7 +49,8 @@ pub fn signed(text: &[u8]) -> Option<i32>
 /// Appends the canonical decimal of a number, with a minus sign before it where the number is below 0.
 pub fn put_number(out: &mut ArrayVec<u8, 4096>, v: i64)
     requires { array_vec_len out.old + 20 ≤ 4096 }
-    ensures { out.new.items ≡ out.old.items ++ signed_decimal v }
+    ensures text { out.new.items ≡ out.old.items ++ signed_decimal v }
+    ensures short { array_vec_len out.new ≤ array_vec_len out.old + 20 }
 {
     let mut buffer = Buffer::new();
     out.try_extend_from_slice(buffer.format(v).as_bytes())

@@ -20,3 +20,8 @@ pub loop-octet-preserved : goal.loop-octet-preserved
 loop-octet-preserved c =
     let more = encode_more c.args.out.now.items c.args.octets.now c.loop-octet.octet-index c.loop-octet-test.true in
     cc
+
+pub returns-clause-len : goal.returns-clause-len
+returns-clause-len c =
+    let len = simp (length-append, length-encode_lower, length-take) at (ap length c.loop-octet.invariant) in
+    omega (arith, len)
