@@ -40,7 +40,8 @@ hearing e (a ∷ rest) = record { end = heard e a; coming = rest }
 -- what an event does to the side that it names and to the other side, if lists of announcements have no limit
 abbrev pub unlimited : Event → SideView → SideView → SideView × SideView
 unlimited Start near far = (record near { end = started near.end }, far)
-unlimited Tell near far = (record near { end = announced near.end }, record far { coming = far.coming ++ option_to_list (announcement near.end) })
+unlimited Tell near far =
+    (record near { end = announced near.end }, record far { coming = far.coming ++ option_to_list (announcement near.end) })
 unlimited Hear near far = (hearing near.end near.coming, far)
 unlimited Lose near far = (record near { coming = take (length near.coming - 1) near.coming }, far)
 unlimited Again near far = (record near { coming = near.coming ++ keep_last 1 near.coming }, far)
@@ -55,7 +56,8 @@ is_overfull before after = length before == 4096 && nat_lt 4096 (length after)
 -- whether an event would add to a list of announcements that holds 4,096
 unfoldable pub is_crowded : Event → SideView → SideView → Bool
 is_crowded event near far =
-    is_overfull near.coming (unlimited event near far).0.coming || is_overfull far.coming (unlimited event near far).1.coming
+    let after = unlimited event near far in
+    is_overfull near.coming after.0.coming || is_overfull far.coming after.1.coming
 
 -- What an event does to the side that it names and to the other side. One that would add to a full list does nothing.
 unfoldable pub step : Event → SideView → SideView → SideView × SideView

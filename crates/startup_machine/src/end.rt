@@ -47,7 +47,7 @@ impl End {
         }
     }
 
-    /// Leaves standby.
+    /// Leaves standby. In every other state nothing changes.
     pub fn start(&mut self)
         ensures { self.new ≡ started self.old }
     {
@@ -72,7 +72,7 @@ impl End {
         })
     }
 
-    /// Announces the end's offer, except in standby.
+    /// Announces the end's offer with protocol version 1 and no L1 bit. In standby there is nothing to announce.
     pub fn announce(&mut self) -> Option<Announce>
         ensures none { IsNone result ↔ (self.old.state ≡ State.A) }
         ensures value { result ≡ announcement self.old }
@@ -127,7 +127,8 @@ impl End {
         self.told = false;
     }
 
-    /// Hears an announcement of the other end. L1 bits are not looked at.
+    /// Hears an announcement of the other end, whose HDLC rate code is 0 to 6 and whose pointer is 0 or 20 to 63. Its
+    /// L1 bits are not looked at.
     #[tactic(auto, unfolding(crate::specs::End::heard))]
     pub fn heard(&mut self, a: Announce)
         requires { IsInRange a }
@@ -150,7 +151,7 @@ impl End {
         }
     }
 
-    /// Loses the other end's signal: goes back to the search for it, with its first offer.
+    /// Loses the other end's signal: goes back to B with its first offer, except in standby.
     pub fn silence(&mut self)
         ensures { self.new ≡ silenced self.old }
     {
@@ -159,7 +160,7 @@ impl End {
         }
     }
 
-    /// Ends the negotiation of interface and vendor.
+    /// Ends the negotiation of interface and vendor: goes from E to F. In every other state nothing changes.
     pub fn vendor_agreed(&mut self)
         ensures { self.new ≡ vendor_agreed self.old }
     {

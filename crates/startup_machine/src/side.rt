@@ -73,7 +73,8 @@ impl Side {
     /// Appends the newest announcement once more.
     pub(crate) fn again(&mut self) -> Result<(), Crowded>
         ensures crowded { IsErr result ↔ (length self.old.coming ≡ 4096) }
-        ensures ok { OnOk result (self.new ≡ record self.old { coming = self.old.coming ++ keep_last 1 self.old.coming }) }
+        ensures ok { let coming = self.old.coming ++ keep_last 1 self.old.coming in
+            OnOk result (self.new ≡ record self.old { coming = coming }) }
         ensures err { IfErr result (λ c. (c.held ≡ 4096) × (self.new ≡ self.old)) }
     {
         let Some(newest) = self.coming.back().copied() else {

@@ -67,8 +67,8 @@ impl World {
         Ok(World { one, two })
     }
 
-    /// One event at the end of a number. It is refused, and nothing changes, where it would add to a full list of
-    /// announcements.
+    /// One event at the end of this number, 0 or 1. It is refused exactly where it would add to a list that holds 4,096
+    /// announcements, and nothing changes then.
     pub fn event(&mut self, end: usize, event: Event) -> Result<(), Crowded>
         requires { end < 2 }
         ensures crowded { IsErr result ↔ IsTrue (is_refused (end_name end) event self.old) }
@@ -84,7 +84,7 @@ impl World {
         }
     }
 
-    /// The state of the end of a number, and its present offer.
+    /// The state of the end of this number, 0 or 1, and its present offer.
     pub fn look(&self, end: usize) -> (State, Offer)
         requires { end < 2 }
         ensures { let view = (side_of (end_name end) self.now).end in result ≡ (view.state, view.offer) }
