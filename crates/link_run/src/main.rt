@@ -13,25 +13,29 @@ use link_base::{FileShelf, StdSink};
 pub use run::run;
 pub use status::{Status, code};
 use std::env;
+use std::io::{self, ErrorKind};
 use std::process::ExitCode;
 
-/// The program could not get its words from the system.
+/// The program ends with this where the system did not give its words. No status has this code.
 const NO_WORDS: u8 = 13;
 
-/// Memory was wanting for the words.
-const NO_MEMORY: u8 = 7;
+// The words after the program's name.
+fn words_of(rt: &HostRuntime) -> io::Result<Vec<String>> {
+    let mut words = Vec::new(rt.alloc());
+    for word in env::args(rt)?.skip(1) {
+        words.push(word)?;
+    }
+    Ok(words)
+}
 
 fn main(rt: HostRuntime) -> ExitCode {
-    let mut words = Vec::new(rt.alloc());
-    let args = match env::args(&rt) {
-        Ok(args) => args,
+    let words = match words_of(&rt) {
+        Ok(words) => words,
+        Err(error) if error.kind() == ErrorKind::OutOfMemory => {
+            return ExitCode::from(code(&Status::NoMemory));
+        }
         Err(_) => return ExitCode::from(NO_WORDS),
     };
-    for word in args.skip(1) {
-        if words.push(word).is_err() {
-            return ExitCode::from(NO_MEMORY);
-        }
-    }
     let mut shelf = FileShelf::new(&rt);
     let mut out = StdSink::new(&rt);
     let status = run(rt.alloc(), words.as_slice(), &mut shelf, &mut out);
