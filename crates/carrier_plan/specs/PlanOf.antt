@@ -116,7 +116,7 @@ plan_in keys = do
   mode ← mode_at keys (top field.Mode)
   playout ← number_at keys (top field.Playout)
   carriers ← if has_extra top_fields keys then Err (Extra part.Top) else carriers_of (get_member (key_of field.Carrier) keys)
-  Ok (record { option = option; mode = mode; playout = playout; carriers = carriers })
+  Ok (record { option = option; mode = mode; playout = playout; carriers = carriers; flows = [] })
 
 -- what TOML gives for the text, or nothing where it refuses the text
 abbrev pub plan_of_document : Option Members → Result Plan PlanText

@@ -3,13 +3,17 @@
 
 mod carrier_list;
 mod fault;
+mod flow_list;
+mod number_list;
 mod plan;
 mod printed;
 mod reading;
 
 pub use carrier_list::CarrierList;
 pub use fault::{Field, Part, PlanText, ReadError, Spot};
-pub use plan::{Carrier, Method, Mode, Plan};
+pub use flow_list::FlowList;
+pub use number_list::NumberList;
+pub use plan::{Carrier, Flow, Method, Mode, Plan};
 pub use reading::read;
 
 #[cfg(test)]

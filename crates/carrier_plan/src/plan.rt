@@ -1,5 +1,7 @@
 // A plan as plain data.
 use crate::carrier_list::CarrierList;
+use crate::flow_list::FlowList;
+use crate::number_list::NumberList;
 
 /// How a basic frame is put into packets.
 #[derive(Clone, Copy, Debug, PartialEq, Eq)]
@@ -33,12 +35,32 @@ pub struct Carrier {
     pub size: u32,
 }
 
+/// A flow of packets, which carries the containers of its carriers, by their places in the plan, and the
+/// control words where it has control. A packet carries `frames` basic frames and arrives `lmin` to `lmax`
+/// ticks after the last of them, at most `cap` packets are held at once, and sequence numbers count modulo
+/// `p` and, each time round, modulo `q`.
+#[derive(Debug, Drop)]
+pub struct Flow {
+    pub id: u32,
+    pub dst: [u8; 6],
+    pub src: [u8; 6],
+    pub control: bool,
+    pub carriers: NumberList,
+    pub frames: u32,
+    pub lmin: u32,
+    pub lmax: u32,
+    pub cap: u32,
+    pub p: u32,
+    pub q: u32,
+}
+
 /// A plan of a link: its line bit rate option, how it is carried in packets, the basic frames between a frame
-/// and its playout, and its carriers in the order of the file.
+/// and its playout, and its carriers and flows in the order of the file.
 #[derive(Debug, Drop)]
 pub struct Plan {
     pub option: u32,
     pub mode: Mode,
     pub playout: u32,
     pub carriers: CarrierList,
+    pub flows: FlowList,
 }

@@ -8,6 +8,7 @@ ghost use Rattle.carrier_plan.specs.PlanOf as document;
 
 use crate::carrier_list::CarrierList;
 use crate::fault::{Field, Part, PlanText, ReadError, Spot};
+use crate::flow_list::FlowList;
 use crate::plan::{Carrier, Method, Mode, Plan};
 use std::alloc::Global;
 use toml::{Table, Value};
@@ -224,6 +225,7 @@ fn plan_in(alloc: Global, table: &Table) -> Result<Plan, ReadError>
         mode,
         playout,
         carriers,
+        flows: FlowList::new(alloc),
     })
 }
 
