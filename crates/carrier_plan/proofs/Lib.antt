@@ -1,3 +1,4 @@
-pub mod Carriers
+pub mod Elements
+pub mod Flows
 pub mod Octets
 pub mod Texts

@@ -1,6 +1,8 @@
 -- The keys of a plan file, each with what its value stands for. This project's own format.
-use Rattle.std.specs.Prelude.{codes, ℕ, ◌^◌, ◌==◌, ℤ, pos, negsuc, nat_lt, bytes_eq, List, [], ◌∷◌, Result, Ok, Err, if◌then◌else◌}
-use Rattle.toml.specs.Data.{Data, string, integer}
+use Rattle.std.specs.Prelude.{codes, ℕ, Bool, ◌^◌, ◌==◌, ℤ, pos, negsuc, nat_lt, bytes_eq, List, [], ◌∷◌, Result, Ok, Err, if◌then◌else◌}
+use Rattle.hex.specs.Hex.{decode_sized}
+use Rattle.hex.specs.declared.error.FromHexError.{FromHexError}
+use Rattle.toml.specs.Data.{Data, string, integer, boolean}
 use Rattle.carrier_plan.specs.declared.plan.Mode.{Mode}
 use Rattle.carrier_plan.specs.declared.plan.Mode.TheVariants.{Tunnel, Bytes, Aware}
 use Rattle.carrier_plan.specs.declared.plan.Method.{Method}
@@ -18,19 +20,36 @@ key_of field.LineOption = codes "option"
 key_of field.Mode = codes "mode"
 key_of field.Playout = codes "playout"
 key_of field.Carrier = codes "carrier"
+key_of field.Flow = codes "flow"
 key_of field.Method = codes "method"
 key_of field.S = codes "s"
 key_of field.K = codes "k"
 key_of field.M = codes "m"
 key_of field.Start = codes "start"
 key_of field.Size = codes "size"
+key_of field.Id = codes "id"
+key_of field.Dst = codes "dst"
+key_of field.Src = codes "src"
+key_of field.Control = codes "control"
+key_of field.Carriers = codes "carriers"
+key_of field.Frames = codes "frames"
+key_of field.Lmin = codes "lmin"
+key_of field.Lmax = codes "lmax"
+key_of field.Cap = codes "cap"
+key_of field.P = codes "p"
+key_of field.Q = codes "q"
 
--- the keys of the whole document, and those of one carrier
+-- the keys of the whole document, those of one carrier, and those of one flow
 abbrev pub top_fields : List Field
-top_fields = field.Version ∷ field.LineOption ∷ field.Mode ∷ field.Playout ∷ field.Carrier ∷ []
+top_fields = field.Version ∷ field.LineOption ∷ field.Mode ∷ field.Playout ∷ field.Carrier ∷ field.Flow ∷ []
 
 abbrev pub carrier_fields : List Field
 carrier_fields = field.Method ∷ field.S ∷ field.K ∷ field.M ∷ field.Start ∷ field.Size ∷ []
+
+abbrev pub flow_fields : List Field
+flow_fields =
+    field.Id ∷ field.Dst ∷ field.Src ∷ field.Control ∷ field.Carriers ∷ field.Frames ∷ field.Lmin ∷ field.Lmax
+    ∷ field.Cap ∷ field.P ∷ field.Q ∷ []
 
 -- a whole number from 0 to 4,294,967,295
 abbrev pub in_range : Spot → ℤ → Result ℕ PlanText
@@ -60,3 +79,17 @@ mode_named spot name =
 abbrev pub mode_of : Spot → Data → Result Mode PlanText
 mode_of spot (string name) = mode_named spot name
 mode_of spot _ = Err (Kind spot)
+
+-- an address: six octets, as 12 hexadecimal digits of either case
+abbrev pub address_spelled : Spot → Result (List ℕ) FromHexError → Result (List ℕ) PlanText
+address_spelled spot (Ok octets) = Ok octets
+address_spelled spot (Err _) = Err (Value spot)
+
+abbrev pub address_of : Spot → Data → Result (List ℕ) PlanText
+address_of spot (string text) = address_spelled spot (decode_sized text 6)
+address_of spot _ = Err (Kind spot)
+
+-- true or false
+abbrev pub truth_of : Spot → Data → Result Bool PlanText
+truth_of spot (boolean b) = Ok b
+truth_of spot _ = Err (Kind spot)

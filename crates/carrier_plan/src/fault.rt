@@ -12,6 +12,8 @@ pub enum Part {
     Top,
     /// The carrier at this place, from 0.
     Carrier(u32),
+    /// The flow at this place, from 0.
+    Flow(u32),
 }
 
 /// A key of a plan. `LineOption` stands for the key `option`.
@@ -22,19 +24,31 @@ pub enum Field {
     Mode,
     Playout,
     Carrier,
+    Flow,
     Method,
     S,
     K,
     M,
     Start,
     Size,
+    Id,
+    Dst,
+    Src,
+    Control,
+    Carriers,
+    Frames,
+    Lmin,
+    Lmax,
+    Cap,
+    P,
+    Q,
 }
 
 impl Field {
     /// The key as it stands in a plan.
     pub fn key(self) -> &'static str
         ensures key { result.now ≡ key_of self }
-        ensures len { length result.now ≤ 7 }
+        ensures len { length result.now ≤ 8 }
     {
         match self {
             Field::Version => "version",
@@ -42,12 +56,24 @@ impl Field {
             Field::Mode => "mode",
             Field::Playout => "playout",
             Field::Carrier => "carrier",
+            Field::Flow => "flow",
             Field::Method => "method",
             Field::S => "s",
             Field::K => "k",
             Field::M => "m",
             Field::Start => "start",
             Field::Size => "size",
+            Field::Id => "id",
+            Field::Dst => "dst",
+            Field::Src => "src",
+            Field::Control => "control",
+            Field::Carriers => "carriers",
+            Field::Frames => "frames",
+            Field::Lmin => "lmin",
+            Field::Lmax => "lmax",
+            Field::Cap => "cap",
+            Field::P => "p",
+            Field::Q => "q",
         }
     }
 }
@@ -70,8 +96,8 @@ pub enum PlanText {
     Toml,
     /// A required key is absent.
     Missing(Spot),
-    /// A value is of another kind than its key asks for. For an element of `carrier` that is no table, the
-    /// spot is that element's part with the field `Carrier`.
+    /// A value is of another kind than its key asks for. For an element of `carrier` or `flow` that is no
+    /// table, the spot is that element's part with the field `Carrier` or `Flow`.
     Kind(Spot),
     /// A value is of the right kind, and out of range or unknown.
     Value(Spot),

@@ -8,7 +8,7 @@ use itoa::Buffer;
 use std::error::Error;
 use std::fmt;
 
-// A line has at most 39 octets, and the digits are reckoned at 40.
+// A line has at most 40 octets, and the digits are reckoned at 40.
 type Line = ArrayString<80>;
 
 impl PlanText {
@@ -37,14 +37,27 @@ fn line_of(text: &str) -> Line
     line
 }
 
-fn carrier_line(front: &str, i: u32) -> Line
-    requires { length front.now ≤ 20 }
-    ensures text { result.bytes ≡ front.now ++ codes "carrier " ++ decimal i }
+fn place_line(front: &str, part: &str, i: u32) -> Line
+    requires front { length front.now ≤ 20 }
+    requires part { length part.now ≤ 8 }
+    ensures text { result.bytes ≡ front.now ++ part.now ++ decimal i }
     ensures len { length result.bytes ≤ 68 }
 {
     let mut line = line_of(front);
-    line.push_str("carrier ");
+    line.push_str(part);
     line.push_str(Buffer::new().format(i));
+    line
+}
+
+fn place_key_line(front: &str, part: &str, i: u32, key: &str) -> Line
+    requires front { length front.now ≤ 20 }
+    requires part { length part.now ≤ 8 }
+    requires key { length key.now ≤ 8 }
+    ensures { result.bytes ≡ front.now ++ part.now ++ decimal i ++ codes " " ++ key.now }
+{
+    let mut line = place_line(front, part, i);
+    line.push_str(" ");
+    line.push_str(key);
     line
 }
 
@@ -58,7 +71,8 @@ fn part_line(front: &str, part: Part) -> Line
             line.push_str("top");
             line
         }
-        Part::Carrier(i) => carrier_line(front, i),
+        Part::Carrier(i) => place_line(front, "carrier ", i),
+        Part::Flow(i) => place_line(front, "flow ", i),
     }
 }
 
@@ -73,12 +87,8 @@ fn spot_line(front: &str, spot: Spot) -> Line
             line.push_str(key);
             line
         }
-        Part::Carrier(i) => {
-            let mut line = carrier_line(front, i);
-            line.push_str(" ");
-            line.push_str(key);
-            line
-        }
+        Part::Carrier(i) => place_key_line(front, "carrier ", i, key),
+        Part::Flow(i) => place_key_line(front, "flow ", i, key),
     }
 }
 

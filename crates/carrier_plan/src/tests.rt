@@ -5,6 +5,9 @@ use std::test::Fail;
 const PLAN: &str =
     "version = 1\noption = 1\nmode = \"bytes\"\nplayout = 2\n[[carrier]]\nmethod = 1\ns = 1\nk = 1\nm = 8\nstart = 0\nsize = 16\n";
 
+const FLOW: &str =
+    "[[flow]]\nid = 7\ndst = \"020000000001\"\nsrc = \"0200000000aB\"\ncontrol = true\ncarriers = [0]\nframes = 1\nlmin = 0\nlmax = 2\ncap = 3\np = 4\nq = 5\n";
+
 // Behind a good top.
 const TOP: &str = "version = 1\noption = 1\nmode = \"aware\"\nplayout = 0\n";
 
@@ -98,7 +101,7 @@ fn the_first_fault_behind_a_good_top_is_named(rt: HostRuntime) -> Result<(), Fai
     for (rest, line) in [
         ("", "a plan"),
         ("carrier = []\n", "a plan"),
-        ("flow = []\n", "plan extra top"),
+        ("flow = []\n", "a plan"),
         ("carrier = 5\nrate = 1\n", "plan extra top"),
         ("carrier = 5\n", "plan kind carrier"),
         ("carrier = [{}, 5]\n", "plan missing carrier 0 method"),
@@ -127,6 +130,72 @@ fn the_first_fault_behind_a_good_top_is_named(rt: HostRuntime) -> Result<(), Fai
             "carrier = [{method = 3, s = 1, k = 1, m = 8, start = 0, size = 16}, 5]\n",
             "plan kind carrier 1 carrier",
         ),
+    ] {
+        let text = format!(in rt.alloc(); "{TOP}{rest}")?;
+        assert_eq!(rt;
+            told(rt.alloc(), text.as_bytes())?.as_str(),
+            line,
+            "at {rest}"
+        );
+    }
+    Ok(())
+}
+
+#[test]
+fn a_flow_is_read(rt: HostRuntime) -> Result<(), Fail> {
+    let text = format!(in rt.alloc(); "{PLAN}{FLOW}")?;
+    let plan = read(rt.alloc(), text.as_bytes())?;
+    assert_eq!(rt; plan.carriers.len(), 1);
+    assert_eq!(rt; plan.flows.len(), 1);
+    assert!(rt; !plan.flows.is_empty());
+    assert_eq!(rt; plan.flows.as_slice().len(), 1);
+    let flow = plan.flows.at(0);
+    assert_eq!(rt; flow.id, 7);
+    assert_eq!(rt; flow.dst, [2, 0, 0, 0, 0, 1]);
+    assert_eq!(rt; flow.src, [2, 0, 0, 0, 0, 0xab]);
+    assert!(rt; flow.control);
+    assert_eq!(rt; flow.carriers.len(), 1);
+    assert!(rt; !flow.carriers.is_empty());
+    assert_eq!(rt; flow.carriers.at(0), 0);
+    assert_eq!(rt; flow.carriers.as_slice(), [0].as_slice());
+    assert_eq!(rt;
+        [flow.frames, flow.lmin, flow.lmax, flow.cap, flow.p, flow.q],
+        [1, 0, 2, 3, 4, 5]
+    );
+    Ok(())
+}
+
+#[test]
+fn the_first_fault_of_a_flow_is_named(rt: HostRuntime) -> Result<(), Fail> {
+    for (old, new, line) in [
+        ("lmin = 0\n", "", "plan missing flow 0 lmin"),
+        ("id = 7\n", "id = \"7\"\n", "plan kind flow 0 id"),
+        ("id = 7\n", "id = -7\n", "plan value flow 0 id"),
+        ("dst = \"02", "dst = 2 # ", "plan kind flow 0 dst"),
+        ("dst = \"02", "dst = \"2", "plan value flow 0 dst"),
+        ("src = \"02", "src = \"0202", "plan value flow 0 src"),
+        ("src = \"02", "src = \"0g", "plan value flow 0 src"),
+        ("true", "1", "plan kind flow 0 control"),
+        ("[0]", "0", "plan kind flow 0 carriers"),
+        ("[0]", "[-1, \"0\"]", "plan kind flow 0 carriers"),
+        ("[0]", "[0, -1]", "plan value flow 0 carriers"),
+        ("[0]", "[]", "a plan"),
+        ("q = 5\n", "q = 5\nrate = 1\n", "plan extra flow 0"),
+        ("q = 5\n", "q = 5\n[[flow]]\n", "plan missing flow 1 id"),
+    ] {
+        let flow = FLOW.replacen(rt.alloc(), old, new, 1)?;
+        let text = format!(in rt.alloc(); "{PLAN}{flow}")?;
+        assert_eq!(rt;
+            told(rt.alloc(), text.as_bytes())?.as_str(),
+            line,
+            "at {new}"
+        );
+    }
+    for (rest, line) in [
+        ("flow = 5\n", "plan kind flow"),
+        ("flow = [{}, 5]\n", "plan missing flow 0 id"),
+        ("flow = [5, {}]\n", "plan kind flow 0 flow"),
+        ("flow = 5\ncarrier = 5\n", "plan kind carrier"),
     ] {
         let text = format!(in rt.alloc(); "{TOP}{rest}")?;
         assert_eq!(rt;

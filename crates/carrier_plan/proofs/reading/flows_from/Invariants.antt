@@ -1,0 +1,9 @@
+use Rattle.std.proofs.Common.{◌≡◌, drop}
+use Rattle.toml.specs.View.{items_view}
+use Rattle.carrier_plan.specs.PlanOf.{flow_of, all_from}
+use Rattle.carrier_plan.proofs.Elements.{with_front}
+use Rattle.carrier_plan.proofs.reading.flows_from.Given as goal
+
+-- the flows so far, before what is read of the rest, are what is read of all
+abbrev pub invariant-loop-place : goal.invariant-loop-place
+invariant-loop-place l = with_front l.flows (all_from flow_of l.place (items_view (drop l.place l.values))) ≡ all_from flow_of 0 (items_view l.values)
