@@ -2,3 +2,4 @@ pub mod Elements
 pub mod Flows
 pub mod Octets
 pub mod Texts
+pub mod Values

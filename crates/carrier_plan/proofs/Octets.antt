@@ -1,16 +1,17 @@
 -- From the octets of a file to the table of their text.
-use Rattle.std.proofs.Common.{◌≡◌, ℕ, ◌≤◌, Bool, true, false, List, length, nat_lt, Result, Ok, Err, IfOk, IfErr, ◌∙◌, inl, inr, arith, IsUtf8}
+use Rattle.std.proofs.Common.{◌≡◌, ℕ, ◌≤◌, Bool, true, false, List, length, nat_lt, Result, Some, Ok, Err, ap, IfOk, IfErr, ◌∙◌, inl, inr, arith, IsUtf8}
 use Rattle.std.specs.Str.{is_utf8}
 use Rattle.std.proofs.lemmas.Bool.{cases_Bool}
 use Rattle.std.proofs.lemmas.Bool.Decides.{nat_tests}
 use Rattle.std.proofs.lemmas.Str.{is_utf8-from_IsUtf8, IsUtf8-from_is_utf8}
+use Rattle.toml.specs.Data.{Members}
 use Rattle.toml.specs.Parse.{parse_document}
 use Rattle.carrier_plan.specs.declared.plan.Plan.{Plan}
 use Rattle.carrier_plan.specs.declared.fault.PlanText.{PlanText}
 use Rattle.carrier_plan.specs.declared.fault.PlanText.TheVariants.{Utf8}
 use Rattle.carrier_plan.specs.declared.fault.ReadError.{ReadError}
 use Rattle.carrier_plan.specs.declared.fault.ReadError.TheVariants as error
-use Rattle.carrier_plan.specs.PlanOf.{plan_of, plan_of_document, Gives, IsFaultOf}
+use Rattle.carrier_plan.specs.PlanOf.{plan_of, plan_of_document, plan_in, Gives, IsFaultOf}
 
 not_long : (n : ℕ) → n ≤ 65536 → nat_lt 65536 n ≡ false
 not_long n h = grind (arith, nat_tests)
@@ -35,3 +36,7 @@ pub fault_given : (r : Result Plan ReadError) (whole read : Result Plan PlanText
 fault_given (Ok p) whole read e h = tt
 fault_given (Err (error.Text fault)) whole read e h = e ∙ h
 fault_given (Err error.NoMemory) whole read e h = tt
+
+-- a text that is at most so long, and whose table gives a plan
+pub printed_plan : (octets : List ℕ) (keys : Members) (plan : Plan) → length octets ≤ 65536 → IsUtf8 octets → parse_document octets ≡ Some keys → plan_in keys ≡ Ok plan → plan_of octets ≡ Ok plan
+printed_plan octets keys plan short text parsed read = plan_of_text octets short text ∙ ap plan_of_document parsed ∙ read

@@ -1,3 +1,4 @@
 pub mod Keys
 pub mod PlanOf
 pub mod Printed
+pub mod Tables

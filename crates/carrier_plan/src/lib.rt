@@ -7,6 +7,7 @@ mod flow_list;
 mod number_list;
 mod plan;
 mod printed;
+mod printing;
 mod reading;
 
 pub use carrier_list::CarrierList;
@@ -14,6 +15,7 @@ pub use fault::{Field, Part, PlanText, ReadError, Spot};
 pub use flow_list::FlowList;
 pub use number_list::NumberList;
 pub use plan::{Carrier, Flow, Method, Mode, Plan};
+pub use printing::print;
 pub use reading::read;
 
 #[cfg(test)]

@@ -8,6 +8,10 @@ const PLAN: &str =
 const FLOW: &str =
     "[[flow]]\nid = 7\ndst = \"020000000001\"\nsrc = \"0200000000aB\"\ncontrol = true\ncarriers = [0]\nframes = 1\nlmin = 0\nlmax = 2\ncap = 3\np = 4\nq = 5\n";
 
+// A plan of two carriers and one flow, of addresses in both cases.
+const USUAL: &str =
+    "version = 1\noption = 3\nmode = \"bytes\"\nplayout = 33\n[[carrier]]\nmethod = 1\ns = 8\nk = 1\nm = 15\nstart = 0\nsize = 240\n[[carrier]]\nmethod = 3\ns = 8\nk = 1\nm = 15\nstart = 240\nsize = 240\n[[flow]]\nid = 7\ndst = \"02000000000A\"\nsrc = \"02000000000b\"\ncontrol = true\ncarriers = [0, 1]\nframes = 4\nlmin = 10\nlmax = 30\ncap = 6\np = 256\nq = 257\n";
+
 // Behind a good top.
 const TOP: &str = "version = 1\noption = 1\nmode = \"aware\"\nplayout = 0\n";
 
@@ -204,5 +208,33 @@ fn the_first_fault_of_a_flow_is_named(rt: HostRuntime) -> Result<(), Fail> {
             "at {rest}"
         );
     }
+    Ok(())
+}
+
+#[test]
+fn a_plan_that_is_printed_is_read_back(rt: HostRuntime) -> Result<(), Fail> {
+    let plan = read(rt.alloc(), USUAL.as_bytes())?;
+    let text = print(rt.alloc(), &plan)?;
+    let back = read(rt.alloc(), &text)?;
+    assert_eq!(rt; back.option, 3);
+    assert_eq!(rt; back.mode, Mode::Bytes);
+    assert_eq!(rt; back.playout, 33);
+    assert_eq!(rt; back.carriers.len(), 2);
+    assert_eq!(rt; back.carriers.at(0).start, 0);
+    assert_eq!(rt; back.carriers.at(1).start, 240);
+    assert_eq!(rt; back.carriers.at(1).method, Method::Compatible);
+    assert_eq!(rt; back.flows.len(), 1);
+    let flow = back.flows.at(0);
+    assert_eq!(rt; flow.id, 7);
+    assert_eq!(rt; flow.dst, [2, 0, 0, 0, 0, 10]);
+    assert_eq!(rt; flow.src, [2, 0, 0, 0, 0, 11]);
+    assert!(rt; flow.control);
+    assert_eq!(rt; flow.carriers.as_slice(), [0, 1].as_slice());
+    assert_eq!(rt;
+        [flow.frames, flow.lmin, flow.lmax, flow.cap, flow.p, flow.q],
+        [4, 10, 30, 6, 256, 257]
+    );
+    // The text is the same when it is printed again.
+    assert_eq!(rt; print(rt.alloc(), &back)?.as_slice(), text.as_slice());
     Ok(())
 }

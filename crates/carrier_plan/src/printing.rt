@@ -1,0 +1,165 @@
+// Printing a plan as the text of its file.
+ghost use Rattle.std.specs.Prelude.{◌≡◌, ◌<◌, ◌≤◌, ◌^◌, ℕ, length, Ok, IfOk, OnOk, pos};
+ghost use Rattle.toml.specs.Data.{integer, depth, items_depth, members_depth};
+ghost use Rattle.toml.specs.View.{view, items_view, table_view};
+ghost use Rattle.carrier_plan.specs.declared.fault.Spot.{Spot};
+ghost use Rattle.carrier_plan.specs.Keys.{key_of, address_of};
+ghost use Rattle.carrier_plan.specs.PlanOf.{numbers_of, all_from, carrier_of, flow_of, plan_in, plan_of};
+ghost use Rattle.carrier_plan.specs.Tables.{with_key, method_number, mode_name};
+
+use crate::fault::Field;
+use crate::plan::{Carrier, Flow, Method, Mode, Plan};
+use link_base::NoMemory;
+use std::alloc::Global;
+use toml::{Table, Value};
+
+fn number(n: u32) -> Value
+    ensures value { view result ≡ integer (pos n) }
+    ensures range { n < 2 ^ 32 }
+{
+    Value::Integer(i64::from(n))
+}
+
+fn put(alloc: Global, table: &mut Table, field: Field, value: Value) -> Result<(), NoMemory>
+    ensures { OnOk result (table_view table.new ≡ with_key (key_of field) (view value) (table_view table.old)) }
+{
+    let key = String::from_str(alloc, field.key())?;
+    table.insert(key, value)?;
+    Ok(())
+}
+
+fn method_number(method: Method) -> u32
+    ensures { result ≡ method_number method }
+{
+    match method {
+        Method::Sample => 1,
+        Method::Compatible => 3,
+    }
+}
+
+fn carrier_value(alloc: Global, carrier: &Carrier) -> Result<Value, NoMemory>
+    ensures reads { IfOk result (λ value. (i : ℕ) → carrier_of i (view value) ≡ Ok carrier.now) }
+    ensures depth { IfOk result (λ value. depth (view value) ≡ 1) }
+{
+    let mut table = Table::new(alloc);
+    put(
+        alloc,
+        &mut table,
+        Field::Method,
+        number(method_number(carrier.method)),
+    )?;
+    put(alloc, &mut table, Field::S, number(carrier.s))?;
+    put(alloc, &mut table, Field::K, number(carrier.k))?;
+    put(alloc, &mut table, Field::M, number(carrier.m))?;
+    put(alloc, &mut table, Field::Start, number(carrier.start))?;
+    put(alloc, &mut table, Field::Size, number(carrier.size))?;
+    Ok(Value::Table(table))
+}
+
+fn carrier_values(alloc: Global, carriers: &[Carrier]) -> Result<Vec<Value>, NoMemory>
+    ensures reads { IfOk result (λ values. all_from carrier_of 0 (items_view values.items) ≡ Ok carriers.now) }
+    ensures depth { IfOk result (λ values. items_depth (items_view values.items) ≤ 2) }
+{
+    let mut values = Vec::new(alloc);
+    for carrier in carriers {
+        values.push(carrier_value(alloc, carrier)?)?;
+    }
+    Ok(values)
+}
+
+fn address(alloc: Global, octets: &[u8]) -> Result<Value, NoMemory>
+    requires { length octets.now ≡ 6 }
+    ensures reads { IfOk result (λ value. (spot : Spot) → address_of spot (view value) ≡ Ok octets.now) }
+    ensures depth { IfOk result (λ value. depth (view value) ≡ 0) }
+{
+    let digits = hex::encode(alloc, octets)?;
+    Ok(Value::String(digits))
+}
+
+fn number_array(alloc: Global, numbers: &[u32]) -> Result<Value, NoMemory>
+    ensures reads { IfOk result (λ value. (spot : Spot) → numbers_of spot (view value) ≡ Ok numbers.now) }
+    ensures depth { IfOk result (λ value. depth (view value) ≤ 1) }
+{
+    let mut values = Vec::new(alloc);
+    for n in numbers {
+        values.push(number(*n))?;
+    }
+    Ok(Value::Array(values))
+}
+
+fn flow_value(alloc: Global, flow: &Flow) -> Result<Value, NoMemory>
+    ensures reads { IfOk result (λ value. (i : ℕ) → flow_of i (view value) ≡ Ok flow.now) }
+    ensures depth { IfOk result (λ value. depth (view value) ≤ 2) }
+{
+    let dst = address(alloc, &flow.dst)?;
+    let src = address(alloc, &flow.src)?;
+    let carriers = number_array(alloc, flow.carriers.as_slice())?;
+    let mut table = Table::new(alloc);
+    put(alloc, &mut table, Field::Id, number(flow.id))?;
+    put(alloc, &mut table, Field::Dst, dst)?;
+    put(alloc, &mut table, Field::Src, src)?;
+    put(
+        alloc,
+        &mut table,
+        Field::Control,
+        Value::Boolean(flow.control),
+    )?;
+    put(alloc, &mut table, Field::Carriers, carriers)?;
+    put(alloc, &mut table, Field::Frames, number(flow.frames))?;
+    put(alloc, &mut table, Field::Lmin, number(flow.lmin))?;
+    put(alloc, &mut table, Field::Lmax, number(flow.lmax))?;
+    put(alloc, &mut table, Field::Cap, number(flow.cap))?;
+    put(alloc, &mut table, Field::P, number(flow.p))?;
+    put(alloc, &mut table, Field::Q, number(flow.q))?;
+    Ok(Value::Table(table))
+}
+
+fn flow_values(alloc: Global, flows: &[Flow]) -> Result<Vec<Value>, NoMemory>
+    ensures reads { IfOk result (λ values. all_from flow_of 0 (items_view values.items) ≡ Ok flows.now) }
+    ensures depth { IfOk result (λ values. items_depth (items_view values.items) ≤ 2) }
+{
+    let mut values = Vec::new(alloc);
+    for flow in flows {
+        values.push(flow_value(alloc, flow)?)?;
+    }
+    Ok(values)
+}
+
+fn mode_name(mode: Mode) -> &'static str
+    ensures { result.now ≡ mode_name mode }
+{
+    match mode {
+        Mode::Tunnel => "tunnel",
+        Mode::Bytes => "bytes",
+        Mode::Aware => "aware",
+    }
+}
+
+fn plan_table(alloc: Global, plan: &Plan) -> Result<Table, NoMemory>
+    ensures reads { IfOk result (λ table. plan_in (table_view table) ≡ Ok plan.now) }
+    ensures depth { IfOk result (λ table. members_depth (table_view table) ≤ 80) }
+{
+    let mode = Value::string(alloc, mode_name(plan.mode))?;
+    let carriers = carrier_values(alloc, plan.carriers.as_slice())?;
+    let flows = flow_values(alloc, plan.flows.as_slice())?;
+    let mut table = Table::new(alloc);
+    put(alloc, &mut table, Field::Version, number(1))?;
+    put(alloc, &mut table, Field::LineOption, number(plan.option))?;
+    put(alloc, &mut table, Field::Mode, mode)?;
+    put(alloc, &mut table, Field::Playout, number(plan.playout))?;
+    put(alloc, &mut table, Field::Carrier, Value::Array(carriers))?;
+    put(alloc, &mut table, Field::Flow, Value::Array(flows))?;
+    Ok(table)
+}
+
+/// The text of a plan, a TOML document as the crate `toml` lays it out. `read` gives the plan back where the
+/// text has at most 65,536 octets.
+pub fn print(alloc: Global, plan: &Plan) -> Result<Vec<u8>, NoMemory>
+    ensures { IfOk result (λ octets. length octets.items ≤ 65536 → plan_of octets.items ≡ Ok plan.now) }
+{
+    let table = plan_table(alloc, plan)?;
+    match toml::table_to_string(alloc, &table) {
+        Ok(text) => Ok(text.into_bytes()),
+        Err(_) => Err(NoMemory),
+    }
+}
