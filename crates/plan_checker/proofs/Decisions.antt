@@ -1,18 +1,27 @@
 -- Each test of the plain program decides what its rule says.
-use Rattle.std.proofs.Common.{◌≡◌, ℕ, ◌+◌, ◌<◌, ◌≤◌, ◌*◌, ◌%◌, Bool, true, false, not, ◌&&◌, ◌||◌, nat_le, List, [], ◌∷◌, length, zero, suc, arith, refl, sym, subst, ◌∙◌, Decides, inl, inr}
+use Rattle.std.proofs.Common.{◌≡◌, ◌≢◌, ℕ, ◌+◌, ◌-◌, ◌<◌, ◌≤◌, ◌*◌, ◌/◌, ◌%◌, IsTrue, All, count_by, slice_index, Bool, true, false, not, ◌&&◌, ◌||◌, nat_le, List, [], ◌∷◌, length, zero, suc, arith, refl, sym, subst, ◌∙◌, Decides, inl, inr}
 use Rattle.std.specs.Int.{◌∣◌}
-use Rattle.std.specs.List.{HoldsAt, AllWithin}
+use Rattle.std.specs.List.{HoldsAt, AllWithin, AllPairs, list_all, range_with_len}
+use Rattle.std.specs.List.Sorted.{IsStrictlyIncreasing}
 use Rattle.std.proofs.lemmas.Bool.{cases_lt, false≢true}
-use Rattle.std.proofs.lemmas.Bool.Decides.{Decides-eqb, Decides-ltb, Decides-and, Decides-like, leb_tells}
+use Rattle.std.proofs.lemmas.Bool.Decides.{Decides-eqb, Decides-ltb, Decides-and, Decides-by_and, Decides-like, Decides-not, leb_tells}
 use Rattle.std.proofs.lemmas.Nat.Gcd.{dvd-zero, dvd_of_mod-eq-zero, mod-eq-zero_of_dvd, le_of_dvd}
 use Rattle.carrier_plan.specs.declared.plan.Carrier.{Carrier}
+use Rattle.carrier_plan.specs.declared.plan.Flow.{Flow}
+use Rattle.carrier_plan.specs.declared.plan.Mode.{Mode}
+use Rattle.carrier_plan.specs.declared.plan.Mode.TheVariants.{Tunnel, Bytes, Aware}
 use Rattle.carrier_plan.specs.declared.plan.Plan.{Plan}
 use Rattle.plan_checker.specs.WordSize.{iq_bits}
 use Rattle.plan_checker.specs.SampleRate.{IsCoprime, HasSampleRate, HasSampleWidth}
 use Rattle.plan_checker.specs.Container.{HoldsBit, SharesNoBit, HasPrescribedSize, LiesWithin, prescribed_size}
-use Rattle.plan_checker.specs.Rules.{Rule, Holds, item_count}
-use Rattle.plan_checker.specs.Rules.Rule.{LineOption, CarrierCount, SampleRate, SampleWidth, ContainerSize, ContainerEnd, SeparateBits}
-use Rattle.plan_checker.specs.Verdict.{all_below, test_at, divides, is_coprime, has_sample_rate, has_sample_width, holds_bit, shares_no_bit, holds}
+use Rattle.plan_checker.specs.Window.{most_held}
+use Rattle.plan_checker.specs.Flows.{CarriesWholeFrames, IsOneWholeFlow, SharesOutCarriers, HasPayload, lists, octets_of_frame}
+use Rattle.plan_checker.specs.Timing.{HasWindow, IsPlayedInTime, HasSequenceNumbers, HasRoom}
+use Rattle.plan_checker.specs.Rules.{Rule, HasCounts, Holds, IsMetBelow, number_of, item_count}
+use Rattle.plan_checker.specs.Rules.Rule.{LineOption, Counts, WholeFrames, SampleRate, SampleWidth, ContainerSize, ContainerEnd, SeparateBits, SharedOut, PayloadSize, ArrivalWindow, PlayedInTime, SequenceNumbers, BufferRoom}
+use Rattle.plan_checker.specs.Verdict.{all_below, test_at, divides, is_coprime, has_sample_rate, has_sample_width, holds_bit, shares_no_bit, has_counts, is_count_to, is_one_whole_flow, carries_whole_frames, has_distinct_ids, is_ascending, shares_out_carriers, has_payload, has_window, is_played_in_time, has_sequence_numbers, has_room, holds}
+use Rattle.plan_checker.proofs.Counting.{range-from_places, places-from_range}
+use Rattle.plan_checker.proofs.Held.{IsMostHeld-quotient}
 
 up_to_suc : (P : ℕ → Type 0) (n : ℕ) → P n → ((k : ℕ) → k < n → P k) → (k : ℕ) → k < suc n → P k
 up_to_suc P n here below k lt =
@@ -46,10 +55,16 @@ Decides-not_both true true p q = (λ e. absurd (false≢true e), λ h. absurd (h
 Decides-not_both true false p q = (λ _ _ yes. false≢true (q.1 yes), λ _. refl)
 Decides-not_both false y p q = (λ _ yes. absurd (false≢true (p.1 yes)), λ _. refl)
 
-pub Decides-test_at : (test : Carrier → Bool) (P : Carrier → Type 0) → ((c : Carrier) → Decides (test c) (P c)) → (cs : List Carrier) (i : ℕ) → i < length cs → Decides (test_at test cs i) (HoldsAt P cs i)
+pub Decides-test_at : {A : Type 0} (test : A → Bool) (P : A → Type 0) → ((x : A) → Decides (test x) (P x)) → (xs : List A) (i : ℕ) → i < length xs → Decides (test_at test xs i) (HoldsAt P xs i)
 Decides-test_at test P each [] i lt = absurd (omega arith)
-Decides-test_at test P each (c ∷ cs) zero lt = (λ e d. (each c).0 e, λ h. (each c).1 (h c))
-Decides-test_at test P each (c ∷ cs) (suc i) lt = Decides-test_at test P each cs i (omega arith)
+Decides-test_at test P each (x ∷ xs) zero lt = (λ e d. (each x).0 e, λ h. (each x).1 (h x))
+Decides-test_at test P each (x ∷ xs) (suc i) lt = Decides-test_at test P each xs i (omega arith)
+
+-- the same of the item at the place alone
+Decides-test_there : {A : Type 0} (test : A → Bool) (P : A → Type 0) (xs : List A) (i : ℕ) → i < length xs → ((x : A) → HoldsAt (λ y. y ≡ x) xs i → Decides (test x) (P x)) → Decides (test_at test xs i) (HoldsAt P xs i)
+Decides-test_there test P [] i lt each = absurd (omega arith)
+Decides-test_there test P (x ∷ xs) zero lt each = let here = each x (λ d. refl) in (λ e d. here.0 e, λ h. here.1 (h x))
+Decides-test_there test P (x ∷ xs) (suc i) lt each = Decides-test_there test P xs i (omega arith) each
 
 Decides-divides : (d n : ℕ) → Decides (divides d n) (d ∣ n)
 Decides-divides d n = Decides-like _ (dvd_of_mod-eq-zero d) (mod-eq-zero_of_dvd d) (Decides-eqb (n % d) 0)
@@ -94,11 +109,127 @@ Decides-separate cs c i lt =
     (λ h k below d. h k d (omega arith) below)
     (Decides-all_below _ (HoldsAt (λ earlier. SharesNoBit earlier c) cs) i (λ k below. Decides-test_at _ (λ earlier. SharesNoBit earlier c) (λ earlier. Decides-shares_no_bit earlier c) cs k (omega arith)))
 
-pub Decides-holds : (p : Plan) (r : Rule) (i : ℕ) → i < item_count p r → Decides (holds p r i) (Holds p r i)
-Decides-holds p LineOption i lt = Decides-and _ _ (Decides-leb 1 p.option) (Decides-leb p.option 7)
-Decides-holds p CarrierCount i lt = Decides-and _ _ (Decides-leb 1 (length p.carriers)) (Decides-leb (length p.carriers) 64)
-Decides-holds p SampleRate i lt = Decides-test_at has_sample_rate HasSampleRate Decides-has_sample_rate p.carriers i lt
-Decides-holds p SampleWidth i lt = Decides-test_at has_sample_width HasSampleWidth Decides-has_sample_width p.carriers i lt
-Decides-holds p ContainerSize i lt = Decides-test_at _ HasPrescribedSize (λ c. Decides-eqb c.size (prescribed_size c)) p.carriers i lt
-Decides-holds p ContainerEnd i lt = Decides-test_at _ (LiesWithin (iq_bits p.option)) (λ c. Decides-leb (c.start + c.size) (iq_bits p.option)) p.carriers i lt
-Decides-holds p SeparateBits i lt = Decides-test_at _ (λ c. AllWithin (λ earlier. SharesNoBit earlier c) p.carriers 0 i) (λ c. Decides-separate p.carriers c i lt) p.carriers i lt
+Decides-has_counts : (p : Plan) → Decides (has_counts p) (HasCounts p)
+Decides-has_counts p =
+    Decides-like _
+    (λ h. record { some_carriers = h.0; few_carriers = h.1.0; some_flows = h.1.1.0; few_flows = h.1.1.1 })
+    (λ h. (h.some_carriers, (h.few_carriers, (h.some_flows, h.few_flows))))
+    (Decides-and _ _ (Decides-leb 1 (length p.carriers)) (Decides-and _ _ (Decides-leb (length p.carriers) 64) (Decides-and _ _ (Decides-leb 1 (length p.flows)) (Decides-leb (length p.flows) 8))))
+
+pub Decides-list_all : {X : Type 0} (test : X → Bool) (P : X → Type 0) → ((x : X) → Decides (test x) (P x)) → (xs : List X) → Decides (list_all test xs) (All P xs)
+Decides-list_all test P each xs = Decides-by_and test P (list_all test) each refl (λ _ _. refl) xs
+
+Decides-itself : (b : Bool) → Decides b (IsTrue b)
+Decides-itself b = (λ e. e, λ e. e)
+
+Decides-is_count_to : (n : ℕ) (numbers : List ℕ) → Decides (is_count_to n numbers) (numbers ≡ range_with_len 0 n)
+Decides-is_count_to n numbers =
+    Decides-like _
+    (λ h. range-from_places numbers n h.0 h.1)
+    (λ e. places-from_range numbers n e)
+    (Decides-and _ _ (Decides-eqb (length numbers) n) (Decides-all_below _ (λ k. slice_index numbers k ≡ k) n (λ k _. Decides-eqb (slice_index numbers k) k)))
+
+Decides-is_one_whole_flow : (flows : List Flow) (n : ℕ) → Decides (is_one_whole_flow flows n) (IsOneWholeFlow flows n)
+Decides-is_one_whole_flow flows n =
+    Decides-like _
+    (λ h. record { one = h.0; control = h.1.0; whole = h.1.1 })
+    (λ h. (h.one, (h.control, h.whole)))
+    (Decides-and _ _ (Decides-eqb (length flows) 1) (Decides-and _ _
+    (Decides-list_all _ (λ f. IsTrue f.control) (λ f. Decides-itself f.control) flows)
+    (Decides-list_all _ (λ f. f.carriers ≡ range_with_len 0 n) (λ f. Decides-is_count_to n f.carriers) flows)))
+
+Decides-carries_whole_frames : (mode : Mode) (flows : List Flow) (n : ℕ) → Decides (carries_whole_frames mode flows n) (CarriesWholeFrames mode flows n)
+Decides-carries_whole_frames Tunnel flows n = Decides-is_one_whole_flow flows n
+Decides-carries_whole_frames Bytes flows n = Decides-is_one_whole_flow flows n
+Decides-carries_whole_frames Aware flows n = (λ _. tt, λ _. refl)
+
+AllPairs-cons : {X : Type 0} (R : X → X → Type 0) (x : X) (xs : List X) → All (R x) xs → AllPairs R xs → AllPairs R (x ∷ xs)
+AllPairs-cons R x xs here rest zero zero d lt in_range = absurd (omega arith)
+AllPairs-cons R x xs here rest zero (suc j) d lt in_range = here j d (omega arith)
+AllPairs-cons R x xs here rest (suc i) zero d lt in_range = absurd (omega arith)
+AllPairs-cons R x xs here rest (suc i) (suc j) d lt in_range = rest i j d (omega arith) (omega arith)
+
+Decides-has_distinct_ids : (flows : List Flow) → Decides (has_distinct_ids flows) (AllPairs (λ f g. f.id ≢ g.id) flows)
+Decides-has_distinct_ids [] = (λ _ i j d lt in_range. absurd (omega arith), λ _. refl)
+Decides-has_distinct_ids (f ∷ fs) =
+    Decides-like _
+    (λ h. AllPairs-cons (λ a b. a.id ≢ b.id) f fs h.0 h.1)
+    (λ h. (λ j d lt. h 0 (suc j) d (omega arith) (omega arith), λ i j d lt in_range. h (suc i) (suc j) d (omega arith) (omega arith)))
+    (Decides-and _ _
+    (Decides-list_all _ (λ (g : Flow). f.id ≢ g.id) (λ g. Decides-not _ (Decides-eqb f.id g.id)) fs)
+    (Decides-has_distinct_ids fs))
+
+Decides-is_ascending : (numbers : List ℕ) → Decides (is_ascending numbers) (IsStrictlyIncreasing numbers)
+Decides-is_ascending numbers =
+    Decides-like _
+    (λ h k lt. h k (omega arith))
+    (λ h k lt. h k (omega arith))
+    (Decides-all_below _ (λ k. slice_index numbers k < slice_index numbers (k + 1)) (length numbers - 1) (λ k _. Decides-ltb (slice_index numbers k) (slice_index numbers (k + 1))))
+
+Decides-shares_out_carriers : (flows : List Flow) (n : ℕ) → Decides (shares_out_carriers flows n) (SharesOutCarriers flows n)
+Decides-shares_out_carriers flows n =
+    Decides-like _
+    (λ h. record { small_ids = h.0; distinct_ids = h.1.0; ascending = h.1.1.0; known = h.1.1.1.0; one_flow = h.1.1.1.1.0; one_control = h.1.1.1.1.1 })
+    (λ h. (h.small_ids, (h.distinct_ids, (h.ascending, (h.known, (h.one_flow, h.one_control))))))
+    (Decides-and _ _ (Decides-list_all _ (λ (f : Flow). f.id ≤ 255) (λ f. Decides-leb f.id 255) flows)
+    (Decides-and _ _ (Decides-has_distinct_ids flows)
+    (Decides-and _ _ (Decides-list_all _ (λ (f : Flow). IsStrictlyIncreasing f.carriers) (λ f. Decides-is_ascending f.carriers) flows)
+    (Decides-and _ _ (Decides-list_all _ (λ (f : Flow). All (λ c. c < n) f.carriers) (λ f. Decides-list_all _ (λ c. c < n) (λ c. Decides-ltb c n) f.carriers) flows)
+    (Decides-and _ _ (Decides-all_below _ (λ c. count_by (lists c) flows ≡ 1) n (λ c _. Decides-eqb (count_by (lists c) flows) 1))
+    (Decides-eqb (count_by (λ (f : Flow). f.control) flows) 1))))))
+
+Decides-has_payload : (p : Plan) (f : Flow) → Decides (has_payload p f) (HasPayload p f)
+Decides-has_payload p f =
+    let octets = f.frames * octets_of_frame p f in
+    Decides-like _
+    (λ h. record { some_frames = h.0; few_frames = h.1.0; some_octets = h.1.1.0; few_octets = h.1.1.1 })
+    (λ h. (h.some_frames, (h.few_frames, (h.some_octets, h.few_octets))))
+    (Decides-and _ _ (Decides-leb 1 f.frames) (Decides-and _ _ (Decides-leb f.frames 64) (Decides-and _ _ (Decides-leb 1 octets) (Decides-leb octets 1_492))))
+
+Decides-has_window : (f : Flow) → Decides (has_window f) (HasWindow f)
+Decides-has_window f = Decides-and _ _ (Decides-leb f.lmin f.lmax) (Decides-leb f.lmax 100_000)
+
+Decides-is_played_in_time : (playout : ℕ) (f : Flow) → Decides (is_played_in_time playout f) (IsPlayedInTime playout f)
+Decides-is_played_in_time playout f = Decides-and _ _ (Decides-leb (f.frames - 1 + f.lmax) playout) (Decides-leb playout 200_000)
+
+Decides-has_sequence_numbers : (f : Flow) → Decides (has_sequence_numbers f) (HasSequenceNumbers f)
+Decides-has_sequence_numbers f =
+    Decides-like _
+    (λ h. record { some_p = h.0; small_p = h.1.0; some_q = h.1.1.0; small_q = h.1.1.1.0; enough = h.1.1.1.1 })
+    (λ h. (h.some_p, (h.small_p, (h.some_q, (h.small_q, h.enough)))))
+    (Decides-and _ _ (Decides-leb 1 f.p) (Decides-and _ _ (Decides-leb f.p 65_536) (Decides-and _ _ (Decides-leb 1 f.q) (Decides-and _ _ (Decides-leb f.q 65_536) (Decides-ltb ((f.lmax - f.lmin) / f.frames) (f.p * f.q))))))
+
+-- of a flow with frames whose packets may arrive before they are played
+pub Decides-has_room : (playout : ℕ) (f : Flow) → 1 ≤ f.frames → f.lmin ≤ playout → Decides (has_room playout f) (HasRoom playout f)
+Decides-has_room playout f frames order =
+    let most = IsMostHeld-quotient f.frames f.lmin playout frames order in
+    Decides-like _
+    (λ h. record { some = h.0; small = h.1.0; enough = λ t n c. let bound = most.bound t n c in let room = h.1.1 in omega arith })
+    (λ h. (h.some, (h.small, h.enough most.reached_at (most_held f.frames f.lmin playout) most.reached)))
+    (Decides-and _ _ (Decides-leb 1 f.cap) (Decides-and _ _ (Decides-leb f.cap 4_096) (Decides-leb (most_held f.frames f.lmin playout) f.cap)))
+
+-- the same at a place in a plan that meets the rules before
+Decides-room_at : (p : Plan) → IsMetBelow p 14 → (i : ℕ) → i < length p.flows → Decides (test_at (has_room p.playout) p.flows i) (HoldsAt (HasRoom p.playout) p.flows i)
+Decides-room_at p met i lt =
+    Decides-test_there (has_room p.playout) (HasRoom p.playout) p.flows i lt (λ f at.
+    let payload : HasPayload p f = subst (HasPayload p) (at f) (met PayloadSize (omega arith) i lt f) in
+    let window : HasWindow f = subst HasWindow (at f) (met ArrivalWindow (omega arith) i lt f) in
+    let played : IsPlayedInTime p.playout f = subst (IsPlayedInTime p.playout) (at f) (met PlayedInTime (omega arith) i lt f) in
+    Decides-has_room p.playout f payload.some_frames (omega (arith, window.0, played.0)))
+
+-- the test of a rule decides it where the rules before hold
+pub Decides-holds : (p : Plan) (r : Rule) → IsMetBelow p (number_of r) → (i : ℕ) → i < item_count p r → Decides (holds p r i) (Holds p r i)
+Decides-holds p LineOption met i lt = Decides-and _ _ (Decides-leb 1 p.option) (Decides-leb p.option 7)
+Decides-holds p Counts met i lt = Decides-has_counts p
+Decides-holds p WholeFrames met i lt = Decides-carries_whole_frames p.mode p.flows (length p.carriers)
+Decides-holds p SampleRate met i lt = Decides-test_at has_sample_rate HasSampleRate Decides-has_sample_rate p.carriers i lt
+Decides-holds p SampleWidth met i lt = Decides-test_at has_sample_width HasSampleWidth Decides-has_sample_width p.carriers i lt
+Decides-holds p ContainerSize met i lt = Decides-test_at _ HasPrescribedSize (λ c. Decides-eqb c.size (prescribed_size c)) p.carriers i lt
+Decides-holds p ContainerEnd met i lt = Decides-test_at _ (LiesWithin (iq_bits p.option)) (λ c. Decides-leb (c.start + c.size) (iq_bits p.option)) p.carriers i lt
+Decides-holds p SeparateBits met i lt = Decides-test_at _ (λ c. AllWithin (λ earlier. SharesNoBit earlier c) p.carriers 0 i) (λ c. Decides-separate p.carriers c i lt) p.carriers i lt
+Decides-holds p SharedOut met i lt = Decides-shares_out_carriers p.flows (length p.carriers)
+Decides-holds p PayloadSize met i lt = Decides-test_at _ (HasPayload p) (Decides-has_payload p) p.flows i lt
+Decides-holds p ArrivalWindow met i lt = Decides-test_at _ HasWindow Decides-has_window p.flows i lt
+Decides-holds p PlayedInTime met i lt = Decides-test_at _ (IsPlayedInTime p.playout) (Decides-is_played_in_time p.playout) p.flows i lt
+Decides-holds p SequenceNumbers met i lt = Decides-test_at _ HasSequenceNumbers Decides-has_sequence_numbers p.flows i lt
+Decides-holds p BufferRoom met i lt = Decides-room_at p met i lt

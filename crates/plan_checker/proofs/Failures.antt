@@ -1,18 +1,102 @@
 -- The first failure, from what the rules before it say.
-use Rattle.std.proofs.Common.{◌≡◌, ℕ, ◌<◌, arith, subst, sym}
+use Rattle.std.proofs.Common.{◌≡◌, ℕ, ◌+◌, ◌<◌, ◌^◌, length, ap, arith, cond, eqb, inl, inr, refl, subst, sym, ◌∙◌}
+use Rattle.std.proofs.lemmas.Bool.{cases_lt}
 use Rattle.carrier_plan.specs.declared.plan.Plan.{Plan}
-use Rattle.plan_checker.specs.Rules.{Rule, number_of, Holds, IsMet, FailsFirstAt, IsFirstFailure}
-use Rattle.plan_checker.specs.Rules.Rule.{LineOption, CarrierCount, SampleRate, SampleWidth, ContainerSize, ContainerEnd, SeparateBits}
+use Rattle.plan_checker.specs.Rules.{Rule, number_of, item_count, Holds, IsMet, IsMetBelow, IsGood, FailsFirstAt, IsFirstFailure}
+use Rattle.plan_checker.specs.Rules.Rule.{LineOption, Counts, WholeFrames, SampleRate, SampleWidth, ContainerSize, ContainerEnd, SeparateBits, SharedOut, PayloadSize, ArrivalWindow, PlayedInTime, SequenceNumbers, BufferRoom}
 
--- every rule with a number below n holds
-abbrev pub IsMetBelow : Plan → ℕ → Type 0
-IsMetBelow p n = (r : Rule) → number_of r < n → IsMet p r
+-- the rule with a number
+abbrev rule_of : ℕ → Rule
+rule_of n =
+    cond (eqb n 1) LineOption (
+    cond (eqb n 2) Counts (
+    cond (eqb n 3) WholeFrames (
+    cond (eqb n 4) SampleRate (
+    cond (eqb n 5) SampleWidth (
+    cond (eqb n 6) ContainerSize (
+    cond (eqb n 7) ContainerEnd (
+    cond (eqb n 8) SeparateBits (
+    cond (eqb n 9) SharedOut (
+    cond (eqb n 10) PayloadSize (
+    cond (eqb n 11) ArrivalWindow (
+    cond (eqb n 12) PlayedInTime (
+    cond (eqb n 13) SequenceNumbers BufferRoom))))))))))))
 
-pub fails_on_plan : (p : Plan) → ¬ Holds p LineOption 0 → FailsFirstAt p LineOption 0
-fails_on_plan p h = record { in_range = omega arith; fails = h; before = λ j lt. absurd (omega arith) }
+rule_of-number_of : (r : Rule) → rule_of (number_of r) ≡ r
+rule_of-number_of LineOption = refl
+rule_of-number_of Counts = refl
+rule_of-number_of WholeFrames = refl
+rule_of-number_of SampleRate = refl
+rule_of-number_of SampleWidth = refl
+rule_of-number_of ContainerSize = refl
+rule_of-number_of ContainerEnd = refl
+rule_of-number_of SeparateBits = refl
+rule_of-number_of SharedOut = refl
+rule_of-number_of PayloadSize = refl
+rule_of-number_of ArrivalWindow = refl
+rule_of-number_of PlayedInTime = refl
+rule_of-number_of SequenceNumbers = refl
+rule_of-number_of BufferRoom = refl
 
-pub fails_on_count : (p : Plan) → ¬ Holds p CarrierCount 0 → FailsFirstAt p CarrierCount 0
-fails_on_count p h = record { in_range = omega arith; fails = h; before = λ j lt. absurd (omega arith) }
+same_rule : (r s : Rule) → number_of r ≡ number_of s → r ≡ s
+same_rule r s e = sym (rule_of-number_of r) ∙ (ap rule_of e ∙ rule_of-number_of s)
+
+number_of-below : (r : Rule) → number_of r < 15
+number_of-below LineOption = omega arith
+number_of-below Counts = omega arith
+number_of-below WholeFrames = omega arith
+number_of-below SampleRate = omega arith
+number_of-below SampleWidth = omega arith
+number_of-below ContainerSize = omega arith
+number_of-below ContainerEnd = omega arith
+number_of-below SeparateBits = omega arith
+number_of-below SharedOut = omega arith
+number_of-below PayloadSize = omega arith
+number_of-below ArrivalWindow = omega arith
+number_of-below PlayedInTime = omega arith
+number_of-below SequenceNumbers = omega arith
+number_of-below BufferRoom = omega arith
+
+number_of-above : (r : Rule) → 0 < number_of r
+number_of-above LineOption = omega arith
+number_of-above Counts = omega arith
+number_of-above WholeFrames = omega arith
+number_of-above SampleRate = omega arith
+number_of-above SampleWidth = omega arith
+number_of-above ContainerSize = omega arith
+number_of-above ContainerEnd = omega arith
+number_of-above SeparateBits = omega arith
+number_of-above SharedOut = omega arith
+number_of-above PayloadSize = omega arith
+number_of-above ArrivalWindow = omega arith
+number_of-above PlayedInTime = omega arith
+number_of-above SequenceNumbers = omega arith
+number_of-above BufferRoom = omega arith
+
+-- no rule has a number below 1
+pub met_below_1 : (p : Plan) → IsMetBelow p 1
+met_below_1 p r lt = absurd (let above = number_of-above r in omega arith)
+
+-- one rule more
+pub met_below_next : (p : Plan) (r : Rule) → IsMetBelow p (number_of r) → IsMet p r → IsMetBelow p (number_of r + 1)
+met_below_next p r below here s lt =
+    elim (cases_lt (number_of s) (number_of r)) [
+      | inl less ↦ below s less
+      | inr more ↦
+          let same : number_of r ≡ number_of s = omega arith in
+          subst (IsMet p) (same_rule r s same) here
+    ]
+
+-- all rules
+pub good_from_met : (p : Plan) → IsMetBelow p 15 → IsGood p
+good_from_met p met r = met r (number_of-below r)
+
+-- a rule that speaks of the plan as a whole has item 0
+pub fails_at_0 : (p : Plan) (r : Rule) → 0 < item_count p r → ¬ Holds p r 0 → FailsFirstAt p r 0
+fails_at_0 p r some h = record { in_range = some; fails = h; before = λ j lt. absurd (omega arith) }
+
+pub met_at_0 : (p : Plan) (r : Rule) → item_count p r ≡ 1 → Holds p r 0 → IsMet p r
+met_at_0 p r one h i lt = let zero_item : 0 ≡ i = omega arith in subst (Holds p r) zero_item h
 
 pub first_at : (p : Plan) (r : Rule) (i n j : ℕ) → FailsFirstAt p r i → IsMetBelow p (number_of r) → n ≡ number_of r → j ≡ i → IsFirstFailure p n j
 first_at p r i n j h met is_number is_item =
@@ -23,38 +107,9 @@ first_at p r i n j h met is_number is_item =
       before = subst (λ k. IsMetBelow p k) (sym is_number) met;
     }
 
-pub met_below_1 : (p : Plan) → IsMetBelow p 1
-met_below_1 p LineOption lt = absurd (omega arith)
-met_below_1 p CarrierCount lt = absurd (omega arith)
-met_below_1 p SampleRate lt = absurd (omega arith)
-met_below_1 p SampleWidth lt = absurd (omega arith)
-met_below_1 p ContainerSize lt = absurd (omega arith)
-met_below_1 p ContainerEnd lt = absurd (omega arith)
-met_below_1 p SeparateBits lt = absurd (omega arith)
+-- the place of a carrier or a flow fits a u32
+pub carrier_place : (p : Plan) (i : ℕ) → IsMetBelow p 4 → i < length p.carriers → i < 2 ^ 32
+carrier_place p i met lt = let few = (met Counts (omega arith) 0 (omega arith)).few_carriers in omega arith
 
-pub met_below_2 : (p : Plan) → IsMet p LineOption → IsMetBelow p 2
-met_below_2 p a LineOption lt = a
-met_below_2 p a CarrierCount lt = absurd (omega arith)
-met_below_2 p a SampleRate lt = absurd (omega arith)
-met_below_2 p a SampleWidth lt = absurd (omega arith)
-met_below_2 p a ContainerSize lt = absurd (omega arith)
-met_below_2 p a ContainerEnd lt = absurd (omega arith)
-met_below_2 p a SeparateBits lt = absurd (omega arith)
-
-pub met_below_7 : (p : Plan) → IsMet p LineOption → IsMet p CarrierCount → IsMet p SampleRate → IsMet p SampleWidth → IsMet p ContainerSize → IsMetBelow p 7
-met_below_7 p a b c d e LineOption lt = a
-met_below_7 p a b c d e CarrierCount lt = b
-met_below_7 p a b c d e SampleRate lt = c
-met_below_7 p a b c d e SampleWidth lt = d
-met_below_7 p a b c d e ContainerSize lt = e
-met_below_7 p a b c d e ContainerEnd lt = absurd (omega arith)
-met_below_7 p a b c d e SeparateBits lt = absurd (omega arith)
-
-pub met_below_8 : (p : Plan) → IsMetBelow p 7 → IsMet p ContainerEnd → IsMetBelow p 8
-met_below_8 p a b LineOption lt = a LineOption (omega arith)
-met_below_8 p a b CarrierCount lt = a CarrierCount (omega arith)
-met_below_8 p a b SampleRate lt = a SampleRate (omega arith)
-met_below_8 p a b SampleWidth lt = a SampleWidth (omega arith)
-met_below_8 p a b ContainerSize lt = a ContainerSize (omega arith)
-met_below_8 p a b ContainerEnd lt = b
-met_below_8 p a b SeparateBits lt = absurd (omega arith)
+pub flow_place : (p : Plan) (i : ℕ) → IsMetBelow p 9 → i < length p.flows → i < 2 ^ 32
+flow_place p i met lt = let few = (met Counts (omega arith) 0 (omega arith)).few_flows in omega arith

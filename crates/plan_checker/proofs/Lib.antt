@@ -1,6 +1,11 @@
 pub mod Divisors
 pub mod Failures
 pub mod Longest
+pub mod Counting
+pub mod Held
 pub mod Decisions
 pub mod Verdicts
 pub mod Separate
+pub mod Distinct
+pub mod Places
+pub mod Due

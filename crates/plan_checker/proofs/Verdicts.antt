@@ -2,11 +2,10 @@
 use Rattle.std.proofs.Common.{◌≡◌, ℕ, ◌<◌, Bool, true, false, List, [], ◌∷◌, zero, suc, Some, None, arith, refl, sym, subst, ◌∙◌, Decides, inl, inr}
 use Rattle.std.proofs.lemmas.Bool.{cases_lt}
 use Rattle.carrier_plan.specs.declared.plan.Plan.{Plan}
-use Rattle.plan_checker.specs.Rules.{Rule, number_of, IsMet, IsGood, FailsFirstAt, IsFirstFailure, item_count}
-use Rattle.plan_checker.specs.Rules.Rule.{LineOption, CarrierCount, SampleRate, SampleWidth, ContainerSize, ContainerEnd, SeparateBits}
+use Rattle.plan_checker.specs.Rules.{Rule, number_of, IsMet, IsMetBelow, IsGood, FailsFirstAt, IsFirstFailure, item_count}
+use Rattle.plan_checker.specs.Rules.Rule.{LineOption, Counts, WholeFrames, SampleRate, SampleWidth, ContainerSize, ContainerEnd, SeparateBits, SharedOut, PayloadSize, ArrivalWindow, PlayedInTime, SequenceNumbers, BufferRoom}
 use Rattle.plan_checker.specs.Verdict.{first_false, holds, verdict_by, verdict_of}
 use Rattle.plan_checker.specs.Verdict.Verdict.{Good, Fails}
-use Rattle.plan_checker.proofs.Failures.{IsMetBelow}
 use Rattle.plan_checker.proofs.Decisions.{Decides-holds}
 
 first_false-none : (test : ℕ → Bool) (n : ℕ) → ((k : ℕ) → k < n → test k ≡ true) → first_false test n ≡ None
@@ -33,22 +32,40 @@ false_from_not true d h = absurd (h (d.0 refl))
 false_from_not false d h = refl
 
 -- a rule that holds leaves the verdict to the rules after it
-skip : (p : Plan) (r : Rule) (rs : List Rule) → IsMet p r → verdict_by p (r ∷ rs) ≡ verdict_by p rs
-skip p r rs met =
-    let none = first_false-none (holds p r) (item_count p r) (λ k lt. (Decides-holds p r k lt).1 (met k lt)) in
+skip : (p : Plan) (r : Rule) (rs : List Rule) → IsMetBelow p (number_of r) → IsMet p r → verdict_by p (r ∷ rs) ≡ verdict_by p rs
+skip p r rs below met =
+    let none = first_false-none (holds p r) (item_count p r) (λ k lt. (Decides-holds p r below k lt).1 (met k lt)) in
     rw none refl
 
 -- a rule that fails gives it
-stop : (p : Plan) (r : Rule) (rs : List Rule) (i : ℕ) → FailsFirstAt p r i → verdict_by p (r ∷ rs) ≡ Fails (number_of r) i
-stop p r rs i f =
+stop : (p : Plan) (r : Rule) (rs : List Rule) (i : ℕ) → IsMetBelow p (number_of r) → FailsFirstAt p r i → verdict_by p (r ∷ rs) ≡ Fails (number_of r) i
+stop p r rs i below f =
     let in_range : i < item_count p r = f.in_range in
-    let fails = false_from_not (holds p r i) (Decides-holds p r i in_range) f.fails in
-    let some = first_false-some (holds p r) (item_count p r) i in_range fails (λ k lt. (Decides-holds p r k (omega arith)).1 (f.before k lt)) in
+    let fails = false_from_not (holds p r i) (Decides-holds p r below i in_range) f.fails in
+    let some = first_false-some (holds p r) (item_count p r) i in_range fails (λ k lt. (Decides-holds p r below k (omega arith)).1 (f.before k lt)) in
     rw some refl
 
 -- the rules from each number on
+abbrev from_14 : List Rule
+from_14 = BufferRoom ∷ []
+
+abbrev from_13 : List Rule
+from_13 = SequenceNumbers ∷ from_14
+
+abbrev from_12 : List Rule
+from_12 = PlayedInTime ∷ from_13
+
+abbrev from_11 : List Rule
+from_11 = ArrivalWindow ∷ from_12
+
+abbrev from_10 : List Rule
+from_10 = PayloadSize ∷ from_11
+
+abbrev from_9 : List Rule
+from_9 = SharedOut ∷ from_10
+
 abbrev from_8 : List Rule
-from_8 = SeparateBits ∷ []
+from_8 = SeparateBits ∷ from_9
 
 abbrev from_7 : List Rule
 from_7 = ContainerEnd ∷ from_8
@@ -62,43 +79,74 @@ from_5 = SampleWidth ∷ from_6
 abbrev from_4 : List Rule
 from_4 = SampleRate ∷ from_5
 
+abbrev from_3 : List Rule
+from_3 = WholeFrames ∷ from_4
+
 abbrev from_2 : List Rule
-from_2 = CarrierCount ∷ from_4
+from_2 = Counts ∷ from_3
 
 abbrev from_1 : List Rule
 from_1 = LineOption ∷ from_2
 
 -- the rules below a number leave the verdict to those from it on
 to_2 : (p : Plan) → IsMetBelow p 2 → verdict_by p from_1 ≡ verdict_by p from_2
-to_2 p met = skip p LineOption from_2 (met LineOption (omega arith))
+to_2 p met = skip p LineOption from_2 (λ r lt. met r (omega arith)) (met LineOption (omega arith))
+
+to_3 : (p : Plan) → IsMetBelow p 3 → verdict_by p from_1 ≡ verdict_by p from_3
+to_3 p met = to_2 p (λ r lt. met r (omega arith)) ∙ skip p Counts from_3 (λ r lt. met r (omega arith)) (met Counts (omega arith))
 
 to_4 : (p : Plan) → IsMetBelow p 4 → verdict_by p from_1 ≡ verdict_by p from_4
-to_4 p met = to_2 p (λ r lt. met r (omega arith)) ∙ skip p CarrierCount from_4 (met CarrierCount (omega arith))
+to_4 p met = to_3 p (λ r lt. met r (omega arith)) ∙ skip p WholeFrames from_4 (λ r lt. met r (omega arith)) (met WholeFrames (omega arith))
 
 to_5 : (p : Plan) → IsMetBelow p 5 → verdict_by p from_1 ≡ verdict_by p from_5
-to_5 p met = to_4 p (λ r lt. met r (omega arith)) ∙ skip p SampleRate from_5 (met SampleRate (omega arith))
+to_5 p met = to_4 p (λ r lt. met r (omega arith)) ∙ skip p SampleRate from_5 (λ r lt. met r (omega arith)) (met SampleRate (omega arith))
 
 to_6 : (p : Plan) → IsMetBelow p 6 → verdict_by p from_1 ≡ verdict_by p from_6
-to_6 p met = to_5 p (λ r lt. met r (omega arith)) ∙ skip p SampleWidth from_6 (met SampleWidth (omega arith))
+to_6 p met = to_5 p (λ r lt. met r (omega arith)) ∙ skip p SampleWidth from_6 (λ r lt. met r (omega arith)) (met SampleWidth (omega arith))
 
 to_7 : (p : Plan) → IsMetBelow p 7 → verdict_by p from_1 ≡ verdict_by p from_7
-to_7 p met = to_6 p (λ r lt. met r (omega arith)) ∙ skip p ContainerSize from_7 (met ContainerSize (omega arith))
+to_7 p met = to_6 p (λ r lt. met r (omega arith)) ∙ skip p ContainerSize from_7 (λ r lt. met r (omega arith)) (met ContainerSize (omega arith))
 
 to_8 : (p : Plan) → IsMetBelow p 8 → verdict_by p from_1 ≡ verdict_by p from_8
-to_8 p met = to_7 p (λ r lt. met r (omega arith)) ∙ skip p ContainerEnd from_8 (met ContainerEnd (omega arith))
+to_8 p met = to_7 p (λ r lt. met r (omega arith)) ∙ skip p ContainerEnd from_8 (λ r lt. met r (omega arith)) (met ContainerEnd (omega arith))
+
+to_9 : (p : Plan) → IsMetBelow p 9 → verdict_by p from_1 ≡ verdict_by p from_9
+to_9 p met = to_8 p (λ r lt. met r (omega arith)) ∙ skip p SeparateBits from_9 (λ r lt. met r (omega arith)) (met SeparateBits (omega arith))
+
+to_10 : (p : Plan) → IsMetBelow p 10 → verdict_by p from_1 ≡ verdict_by p from_10
+to_10 p met = to_9 p (λ r lt. met r (omega arith)) ∙ skip p SharedOut from_10 (λ r lt. met r (omega arith)) (met SharedOut (omega arith))
+
+to_11 : (p : Plan) → IsMetBelow p 11 → verdict_by p from_1 ≡ verdict_by p from_11
+to_11 p met = to_10 p (λ r lt. met r (omega arith)) ∙ skip p PayloadSize from_11 (λ r lt. met r (omega arith)) (met PayloadSize (omega arith))
+
+to_12 : (p : Plan) → IsMetBelow p 12 → verdict_by p from_1 ≡ verdict_by p from_12
+to_12 p met = to_11 p (λ r lt. met r (omega arith)) ∙ skip p ArrivalWindow from_12 (λ r lt. met r (omega arith)) (met ArrivalWindow (omega arith))
+
+to_13 : (p : Plan) → IsMetBelow p 13 → verdict_by p from_1 ≡ verdict_by p from_13
+to_13 p met = to_12 p (λ r lt. met r (omega arith)) ∙ skip p PlayedInTime from_13 (λ r lt. met r (omega arith)) (met PlayedInTime (omega arith))
+
+to_14 : (p : Plan) → IsMetBelow p 14 → verdict_by p from_1 ≡ verdict_by p from_14
+to_14 p met = to_13 p (λ r lt. met r (omega arith)) ∙ skip p SequenceNumbers from_14 (λ r lt. met r (omega arith)) (met SequenceNumbers (omega arith))
 
 verdict_by-stop : (p : Plan) (r : Rule) (i : ℕ) → FailsFirstAt p r i → IsMetBelow p (number_of r) → verdict_by p from_1 ≡ Fails (number_of r) i
-verdict_by-stop p LineOption i f met = stop p LineOption from_2 i f
-verdict_by-stop p CarrierCount i f met = to_2 p met ∙ stop p CarrierCount from_4 i f
-verdict_by-stop p SampleRate i f met = to_4 p met ∙ stop p SampleRate from_5 i f
-verdict_by-stop p SampleWidth i f met = to_5 p met ∙ stop p SampleWidth from_6 i f
-verdict_by-stop p ContainerSize i f met = to_6 p met ∙ stop p ContainerSize from_7 i f
-verdict_by-stop p ContainerEnd i f met = to_7 p met ∙ stop p ContainerEnd from_8 i f
-verdict_by-stop p SeparateBits i f met = to_8 p met ∙ stop p SeparateBits [] i f
+verdict_by-stop p LineOption i f met = stop p LineOption from_2 i met f
+verdict_by-stop p Counts i f met = to_2 p met ∙ stop p Counts from_3 i met f
+verdict_by-stop p WholeFrames i f met = to_3 p met ∙ stop p WholeFrames from_4 i met f
+verdict_by-stop p SampleRate i f met = to_4 p met ∙ stop p SampleRate from_5 i met f
+verdict_by-stop p SampleWidth i f met = to_5 p met ∙ stop p SampleWidth from_6 i met f
+verdict_by-stop p ContainerSize i f met = to_6 p met ∙ stop p ContainerSize from_7 i met f
+verdict_by-stop p ContainerEnd i f met = to_7 p met ∙ stop p ContainerEnd from_8 i met f
+verdict_by-stop p SeparateBits i f met = to_8 p met ∙ stop p SeparateBits from_9 i met f
+verdict_by-stop p SharedOut i f met = to_9 p met ∙ stop p SharedOut from_10 i met f
+verdict_by-stop p PayloadSize i f met = to_10 p met ∙ stop p PayloadSize from_11 i met f
+verdict_by-stop p ArrivalWindow i f met = to_11 p met ∙ stop p ArrivalWindow from_12 i met f
+verdict_by-stop p PlayedInTime i f met = to_12 p met ∙ stop p PlayedInTime from_13 i met f
+verdict_by-stop p SequenceNumbers i f met = to_13 p met ∙ stop p SequenceNumbers from_14 i met f
+verdict_by-stop p BufferRoom i f met = to_14 p met ∙ stop p BufferRoom [] i met f
 
 pub verdict_of-good : (p : Plan) → IsGood p → verdict_of p ≡ Good
 unfolding verdict_of
-verdict_of-good p good = to_8 p (λ r _. good r) ∙ skip p SeparateBits [] (good SeparateBits)
+verdict_of-good p good = to_14 p (λ r _. good r) ∙ skip p BufferRoom [] (λ r _. good r) (good BufferRoom)
 
 pub verdict_of-first_failure : (p : Plan) (n i : ℕ) → IsFirstFailure p n i → verdict_of p ≡ Fails n i
 unfolding verdict_of

@@ -1,6 +1,10 @@
 pub mod WordSize
 pub mod SampleRate
 pub mod Container
+pub mod Count
+pub mod Window
+pub mod Flows
+pub mod Timing
 pub mod Rules
 pub mod Run
 pub mod Verdict

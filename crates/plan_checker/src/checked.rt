@@ -1,14 +1,22 @@
 // A plan that meets the rules, and its numbers.
-ghost use Rattle.std.specs.Prelude.{All, Any, IfErr, IfOk, IsOk, MatchResult, length, ◌≡◌, ◌<◌, ◌≤◌, ◌↔◌};
+ghost use Rattle.std.specs.Prelude.{All, Any, IfErr, IfOk, IsOk, MatchResult, length, slice_index, ◌≡◌, ◌<◌, ◌≤◌, ◌^◌, ◌↔◌};
 ghost use Rattle.plan_checker.specs.WordSize.{word_size};
 ghost use Rattle.plan_checker.specs.Rules.{IsFirstFailure, IsGood};
 ghost use Rattle.plan_checker.specs.Verdict.{verdict_of};
 ghost use Rattle.plan_checker.specs.Verdict.Verdict.{Good, Fails};
-ghost use Rattle.plan_checker.specs.Run.{delay_of, longest_block};
+ghost use Rattle.plan_checker.specs.Count.{HasCount};
+ghost use Rattle.plan_checker.specs.Window.{IsMostHeld};
+ghost use Rattle.plan_checker.specs.Run.{IsDue, delay_of, frame_octets_of, least_delays, longest_block, packet_frames, packets_held, packets_of_run, samples_due, ticks_of_run};
 
-use crate::rules::{Failure, first_failure};
+use crate::copies::copy_of_plan;
+use crate::failure::Failure;
+use crate::payload::octets_of_frame;
+use crate::rules::first_failure;
+use crate::timing::packets_held;
 use crate::word_size::octets_of_word;
 use carrier_plan::Plan;
+use link_base::NoMemory;
+use std::alloc::Global;
 use std::marker::Model;
 use thiserror::Error;
 
@@ -36,11 +44,11 @@ pub struct Refused {
     pub plan: Plan,
     /// The number of the rule.
     pub rule: u32,
-    /// The place of the carrier that the rule fails at, or 0 where the rule speaks of the whole plan.
+    /// The place of the carrier or flow that the rule fails at, or 0 where the rule speaks of the whole plan.
     pub item: u32,
 }
 
-/// Tries the rules on a plan: by their numbers, and each by the carriers in their order.
+/// Tries the rules on a plan: by their numbers, and each by the carriers or flows in their order.
 pub fn check(plan: Plan) -> Result<Checked, Refused>
     ensures exact { IsOk result ↔ IsGood plan }
     ensures kept { IfOk result (λ checked. checked ≡ plan) }
@@ -91,5 +99,61 @@ impl Checked {
         ensures { result ≡ delay_of self.now c }
     {
         u64::from(self.plan.playout) + u64::from(self.plan.carriers.at(c).k)
+    }
+
+    /// The greatest number of packets of flow `f` that may have to be held at one tick.
+    pub fn need(&self, f: usize) -> u64
+        requires { f < length self.now.flows }
+        ensures value { result ≡ packets_held self.now f }
+        ensures most { IsMostHeld (slice_index (packet_frames self.now) f) (slice_index (least_delays self.now) f) self.now.playout result }
+    {
+        packets_held(self.plan.flows.at(f), self.plan.playout)
+    }
+
+    /// The packets of flow `f` in a run of `h` ticks.
+    pub fn packets(&self, f: usize, h: u64) -> u64
+        requires flow { f < length self.now.flows }
+        requires run { h ≤ 2 ^ 40 }
+        ensures { result ≡ packets_of_run self.now f h }
+    {
+        (h + u64::from(self.longest())).div_ceil(u64::from(self.plan.flows.at(f).frames))
+    }
+
+    /// The ticks in which a run of `h` ticks is played.
+    pub fn ticks(&self, h: u64) -> u64
+        requires { h ≤ 2 ^ 40 }
+        ensures { result ≡ ticks_of_run self.now h }
+    {
+        h + u64::from(self.longest()) + u64::from(self.plan.playout)
+    }
+
+    /// The number of samples of carrier `c` that are handed in at tick `n`.
+    pub fn due(&self, c: usize, n: u64) -> u32
+        requires carrier { c < length self.now.carriers }
+        requires tick { n ≤ 2 ^ 40 }
+        ensures value { result ≡ samples_due self.now c n }
+        ensures count { HasCount (IsDue self.now c n) result }
+    {
+        let carrier = self.plan.carriers.at(c);
+        let s = u64::from(carrier.s);
+        let k = u64::from(carrier.k);
+        ((n + 1) * s / k - n * s / k) as u32
+    }
+
+    /// The octets of one basic frame in flow `f`.
+    pub fn frame_octets(&self, f: usize) -> usize
+        requires { f < length self.now.flows }
+        ensures { result ≡ frame_octets_of self.now f }
+    {
+        octets_of_frame(&self.plan, self.plan.flows.at(f))
+    }
+
+    /// The same plan once more.
+    pub fn copy(&self, alloc: Global) -> Result<Checked, NoMemory>
+        ensures { IfOk result (λ copy. copy ≡ self.now) }
+    {
+        Ok(Checked {
+            plan: copy_of_plan(alloc, &self.plan)?,
+        })
     }
 }

@@ -1,31 +1,15 @@
-// The rules of a plan, each tried in one walk over its carriers.
-ghost use Rattle.std.specs.Prelude.{IsTrue, MatchOption, length, ◌≡◌, ◌<◌, ◌^◌, ◌↔◌};
-ghost use Rattle.plan_checker.specs.Rules.{FailsFirstAt, Holds, IsFirstFailure, IsGood, IsMet};
-ghost use Rattle.plan_checker.specs.Rules.Rule.{LineOption, CarrierCount, SampleRate, SampleWidth, ContainerSize, ContainerEnd, SeparateBits};
+// The rules of a plan in their order. Each on carriers is tried in one walk over them.
+ghost use Rattle.std.specs.Prelude.{IsTrue, MatchOption, length, ◌<◌, ◌↔◌};
+ghost use Rattle.plan_checker.specs.Rules.{FailsFirstAt, Holds, IsFirstFailure, IsGood, IsMet, IsMetBelow};
+ghost use Rattle.plan_checker.specs.Rules.Rule.{LineOption, Counts, WholeFrames, SampleRate, SampleWidth, ContainerSize, ContainerEnd, SeparateBits};
 
 use crate::container::{lies_within, shares_no_bit, size_of_container};
+use crate::failure::Failure;
+use crate::flow_rules::failure_of_flows;
+use crate::flows::is_one_whole_flow;
 use crate::sample_rate::{has_sample_rate, has_sample_width};
 use crate::word_size::octets_of_word;
-use carrier_plan::Plan;
-
-// The first failure of a plan.
-pub(crate) struct Failure {
-    pub(crate) rule: u32,
-    pub(crate) item: u32,
-}
-
-impl Failure {
-    fn at(rule: u32, place: usize) -> Failure
-        requires { place < 2 ^ 32 }
-        ensures number { result.rule ≡ rule }
-        ensures carrier { result.item ≡ place }
-    {
-        Failure {
-            rule,
-            item: place as u32,
-        }
-    }
-}
+use carrier_plan::{Mode, Plan};
 
 fn has_line_option(plan: &Plan) -> bool
     ensures { IsTrue result ↔ Holds plan.now LineOption 0 }
@@ -33,10 +17,21 @@ fn has_line_option(plan: &Plan) -> bool
     (1..=7).contains(&plan.option)
 }
 
-fn has_carriers(plan: &Plan) -> bool
-    ensures { IsTrue result ↔ Holds plan.now CarrierCount 0 }
+fn has_counts(plan: &Plan) -> bool
+    ensures { IsTrue result ↔ Holds plan.now Counts 0 }
 {
-    (1..=64).contains(&plan.carriers.len())
+    (1..=64).contains(&plan.carriers.len()) && (1..=8).contains(&plan.flows.len())
+}
+
+fn carries_whole_frames(plan: &Plan) -> bool
+    ensures { IsTrue result ↔ Holds plan.now WholeFrames 0 }
+{
+    match plan.mode {
+        Mode::Tunnel | Mode::Bytes => {
+            is_one_whole_flow(plan.flows.as_slice(), plan.carriers.len())
+        }
+        Mode::Aware => true,
+    }
 }
 
 // The first carrier without a rate that can be carried.
@@ -108,16 +103,27 @@ fn shared_bits(plan: &Plan) -> Option<usize>
     None
 }
 
-// The first failure of a plan, by rule and then by item.
-pub(crate) fn first_failure(plan: &Plan) -> Option<Failure>
-    ensures { MatchOption result (IsGood plan.now) (λ f. IsFirstFailure plan.now f.rule f.item) }
+// The first failure among the rules that come first, which speak of the plan as a whole.
+fn failure_of_plan(plan: &Plan) -> Option<Failure>
+    ensures { MatchOption result (IsMetBelow plan.now 4) (λ f. IsFirstFailure plan.now f.rule f.item) }
 {
     if !has_line_option(plan) {
         return Some(Failure { rule: 1, item: 0 });
     }
-    if !has_carriers(plan) {
+    if !has_counts(plan) {
         return Some(Failure { rule: 2, item: 0 });
     }
+    if !carries_whole_frames(plan) {
+        return Some(Failure { rule: 3, item: 0 });
+    }
+    None
+}
+
+// The first failure among the rules on carriers.
+fn failure_of_carriers(plan: &Plan) -> Option<Failure>
+    requires { IsMetBelow plan.now 4 }
+    ensures { MatchOption result (IsMetBelow plan.now 9) (λ f. IsFirstFailure plan.now f.rule f.item) }
+{
     if let Some(i) = wrong_rate(plan) {
         return Some(Failure::at(4, i));
     }
@@ -134,4 +140,17 @@ pub(crate) fn first_failure(plan: &Plan) -> Option<Failure>
         return Some(Failure::at(8, i));
     }
     None
+}
+
+// The first failure of a plan, by rule and then by item.
+pub(crate) fn first_failure(plan: &Plan) -> Option<Failure>
+    ensures { MatchOption result (IsGood plan.now) (λ f. IsFirstFailure plan.now f.rule f.item) }
+{
+    if let Some(failure) = failure_of_plan(plan) {
+        return Some(failure);
+    }
+    if let Some(failure) = failure_of_carriers(plan) {
+        return Some(failure);
+    }
+    failure_of_flows(plan)
 }

@@ -1,21 +1,65 @@
 // Plans at the edges of each rule.
 use crate::{Checked, check};
-use carrier_plan::{Carrier, CarrierList, Method, Mode, Plan};
+use carrier_plan::{Carrier, CarrierList, Flow, FlowList, Method, Mode, NumberList, Plan};
 use link_base::NoMemory;
 use std::alloc::Global;
 use std::test::Fail;
 
-fn plan_of(alloc: Global, option: u32, carriers: &[Carrier]) -> Result<Plan, NoMemory> {
+// A flow whose packets hold one basic frame each and arrive 0 to 2 ticks after it.
+fn flow_of(alloc: Global, id: u32, control: bool, carriers: &[u32]) -> Result<Flow, NoMemory> {
+    let mut numbers = NumberList::new(alloc);
+    for carrier in carriers {
+        numbers.push(*carrier)?;
+    }
+    Ok(Flow {
+        id,
+        dst: [2, 0, 0, 0, 0, 1],
+        src: [2, 0, 0, 0, 0, 2],
+        control,
+        carriers: numbers,
+        frames: 1,
+        lmin: 0,
+        lmax: 2,
+        cap: 3,
+        p: 4,
+        q: 4,
+    })
+}
+
+fn list_of(alloc: Global, carriers: &[Carrier]) -> Result<CarrierList, NoMemory> {
     let mut list = CarrierList::new(alloc);
     for carrier in carriers {
         list.push(*carrier)?;
     }
+    Ok(list)
+}
+
+// A plan in mode `bytes` with one flow.
+fn plan_with(
+    alloc: Global,
+    option: u32,
+    playout: u32,
+    carriers: &[Carrier],
+    flow: Flow,
+) -> Result<Plan, NoMemory> {
+    let mut flows = FlowList::new(alloc);
+    flows.push(flow)?;
     Ok(Plan {
         option,
         mode: Mode::Bytes,
-        playout: 2,
-        carriers: list,
+        playout,
+        carriers: list_of(alloc, carriers)?,
+        flows,
     })
+}
+
+// A plan in mode `bytes` with one flow that lists all carriers.
+fn plan_of(alloc: Global, option: u32, carriers: &[Carrier]) -> Result<Plan, NoMemory> {
+    let mut flow = flow_of(alloc, 7, true, &[])?;
+    for i in 0..carriers.len().min(100) {
+        flow.carriers.push(i as u32)?;
+    }
+    plan_with(alloc, option, 2, carriers, flow)
 }
 
 fn checked(alloc: Global, option: u32, carriers: &[Carrier]) -> Result<Option<Checked>, NoMemory> {
@@ -124,10 +168,195 @@ fn several_carriers(rt: HostRuntime) -> Result<(), Fail> {
 #[test]
 fn as_many_carriers_as_a_plan_may_have(rt: HostRuntime) -> Result<(), Fail> {
     for (count, expected) in [(0, (2, 0)), (1, (0, 0)), (64, (0, 0)), (65, (2, 0))] {
+        let mut flow = flow_of(rt.alloc(), 7, true, &[])?;
+        let mut carriers = CarrierList::new(rt.alloc());
+        for i in 0..count {
+            carriers.push(sampled(1, 1, 4, 8 * i, 8))?;
+            flow.carriers.push(i)?;
+        }
+        let mut plan = plan_with(rt.alloc(), 7, 2, &[], flow)?;
+        plan.carriers = carriers;
+        assert_eq!(rt; outcome(plan), expected);
+    }
+    Ok(())
+}
+
+#[test]
+fn as_many_flows_as_a_plan_may_have(rt: HostRuntime) -> Result<(), Fail> {
+    for (count, expected) in [(0, (2, 0)), (1, (0, 0)), (8, (0, 0)), (9, (2, 0))] {
         let mut plan = plan_of(rt.alloc(), 7, &[])?;
+        plan.mode = Mode::Aware;
+        plan.flows = FlowList::new(rt.alloc());
         for i in 0..count {
             plan.carriers.push(sampled(1, 1, 4, 8 * i, 8))?;
+            plan.flows.push(flow_of(rt.alloc(), i, i == 0, &[i])?)?;
         }
+        if count == 0 {
+            plan.carriers.push(sampled(1, 1, 4, 0, 8))?;
+        }
+        assert_eq!(rt; outcome(plan), expected);
+    }
+    Ok(())
+}
+
+// Rule and item for a plan in a mode with two carriers and these flows: id, control and carriers.
+fn outcome_of_flows(
+    alloc: Global,
+    mode: Mode,
+    flows: &[(u32, bool, &[u32])],
+) -> Result<(u32, u32), NoMemory> {
+    let carriers = [sampled(1, 1, 8, 0, 16), sampled(1, 1, 8, 16, 16)];
+    let mut plan = plan_of(alloc, 1, &carriers)?;
+    plan.mode = mode;
+    plan.flows = FlowList::new(alloc);
+    for (id, control, listed) in flows {
+        plan.flows.push(flow_of(alloc, *id, *control, listed)?)?;
+    }
+    Ok(outcome(plan))
+}
+
+#[test]
+fn whole_frames_are_carried_by_one_flow(rt: HostRuntime) -> Result<(), Fail> {
+    let alloc = rt.alloc();
+    for mode in [Mode::Tunnel, Mode::Bytes] {
+        assert_eq!(rt;
+            outcome_of_flows(alloc, mode, &[(7, true, &[0, 1])])?,
+            (0, 0)
+        );
+        assert_eq!(rt;
+            outcome_of_flows(alloc, mode, &[(7, false, &[0, 1])])?,
+            (3, 0)
+        );
+        assert_eq!(rt; outcome_of_flows(alloc, mode, &[(7, true, &[0])])?, (3, 0));
+        assert_eq!(rt;
+            outcome_of_flows(alloc, mode, &[(7, true, &[1, 0])])?,
+            (3, 0)
+        );
+        assert_eq!(rt;
+            outcome_of_flows(alloc, mode, &[(7, true, &[0, 1]), (8, false, &[])])?,
+            (3, 0)
+        );
+    }
+    Ok(())
+}
+
+#[test]
+fn flows_share_out_the_carriers(rt: HostRuntime) -> Result<(), Fail> {
+    let alloc = rt.alloc();
+    let mode = Mode::Aware;
+    assert_eq!(rt;
+        outcome_of_flows(alloc, mode, &[(254, false, &[1]), (255, true, &[0])])?,
+        (0, 0)
+    );
+    assert_eq!(rt;
+        outcome_of_flows(alloc, mode, &[(255, false, &[1]), (256, true, &[0])])?,
+        (9, 0)
+    );
+    // One id twice.
+    assert_eq!(rt;
+        outcome_of_flows(alloc, mode, &[(7, false, &[1]), (7, true, &[0])])?,
+        (9, 0)
+    );
+    // A list out of order.
+    assert_eq!(rt;
+        outcome_of_flows(alloc, mode, &[(7, true, &[1, 0])])?,
+        (9, 0)
+    );
+    // A carrier in no flow, in two flows, twice in one, and one that is not there.
+    assert_eq!(rt; outcome_of_flows(alloc, mode, &[(7, true, &[0])])?, (9, 0));
+    assert_eq!(rt;
+        outcome_of_flows(alloc, mode, &[(7, true, &[0, 1]), (8, false, &[1])])?,
+        (9, 0)
+    );
+    assert_eq!(rt;
+        outcome_of_flows(alloc, mode, &[(7, true, &[0, 1, 1])])?,
+        (9, 0)
+    );
+    assert_eq!(rt;
+        outcome_of_flows(alloc, mode, &[(7, true, &[0, 1, 2])])?,
+        (9, 0)
+    );
+    // No control, and two.
+    assert_eq!(rt;
+        outcome_of_flows(alloc, mode, &[(7, false, &[0, 1])])?,
+        (9, 0)
+    );
+    assert_eq!(rt;
+        outcome_of_flows(alloc, mode, &[(7, true, &[0]), (8, true, &[1])])?,
+        (9, 0)
+    );
+    // The second flow has an empty payload.
+    assert_eq!(rt;
+        outcome_of_flows(alloc, mode, &[(7, true, &[0, 1]), (8, false, &[])])?,
+        (10, 1)
+    );
+    Ok(())
+}
+
+// The payload is the frames times 71, or 83, octets: the control word and a container of 440, or 536, bits.
+#[test]
+fn payload_at_its_edges(rt: HostRuntime) -> Result<(), Fail> {
+    let narrow = sampled(11, 1, 20, 0, 440);
+    let wide = sampled(67, 5, 20, 0, 536);
+    for (carrier, frames, expected) in [
+        (narrow, 21, (0, 0)),
+        (narrow, 22, (10, 0)),
+        (wide, 17, (0, 0)),
+        (wide, 18, (10, 0)),
+    ] {
+        let mut flow = flow_of(rt.alloc(), 7, true, &[0])?;
+        flow.frames = frames;
+        let mut plan = plan_with(rt.alloc(), 7, 40, &[carrier], flow)?;
+        plan.mode = Mode::Aware;
+        assert_eq!(rt; outcome(plan), expected);
+    }
+    Ok(())
+}
+
+// The numbers of a flow of the smallest frames: playout, frames, lmin, lmax, cap, p and q.
+#[test]
+fn one_flow_at_the_edges_of_its_rules(rt: HostRuntime) -> Result<(), Fail> {
+    let rows = [
+        // The frames of a packet.
+        ([2, 0, 0, 2, 3, 4, 4], (10, 0)),
+        ([100, 64, 0, 2, 3, 4, 4], (0, 0)),
+        ([100, 65, 0, 2, 3, 4, 4], (10, 0)),
+        // The window.
+        ([2, 1, 2, 2, 3, 4, 4], (0, 0)),
+        ([2, 1, 3, 2, 3, 4, 4], (11, 0)),
+        ([100_000, 1, 100_000, 100_000, 3, 4, 4], (0, 0)),
+        ([100_001, 1, 100_001, 100_001, 3, 4, 4], (11, 0)),
+        // The playout.
+        ([33, 4, 10, 30, 6, 256, 256], (0, 0)),
+        ([32, 4, 10, 30, 6, 256, 256], (12, 0)),
+        ([200_000, 64, 100_000, 100_000, 4_096, 4, 4], (0, 0)),
+        ([200_001, 64, 100_000, 100_000, 4_096, 4, 4], (12, 0)),
+        ([2, 1, 0, u32::MAX, 3, 4, 4], (11, 0)),
+        // The sequence numbers.
+        ([33, 4, 10, 30, 6, 6, 1], (0, 0)),
+        ([33, 4, 10, 30, 6, 5, 1], (13, 0)),
+        ([2, 1, 0, 2, 3, 65_536, 65_536], (0, 0)),
+        ([2, 1, 0, 2, 3, 65_537, 1], (13, 0)),
+        ([2, 1, 0, 2, 3, 1, 65_537], (13, 0)),
+        ([2, 1, 0, 2, 3, 0, 4], (13, 0)),
+        ([2, 1, 0, 2, 3, 4, 0], (13, 0)),
+        // The buffer.
+        ([33, 4, 10, 30, 5, 256, 256], (14, 0)),
+        ([2, 1, 2, 2, 1, 4, 4], (0, 0)),
+        ([2, 1, 2, 2, 0, 4, 4], (14, 0)),
+        ([4_095, 1, 0, 2, 4_096, 4, 4], (0, 0)),
+        ([4_096, 1, 0, 2, 4_096, 4, 4], (14, 0)),
+        ([2, 1, 0, 2, 4_097, 4, 4], (14, 0)),
+    ];
+    for ([playout, frames, lmin, lmax, cap, p, q], expected) in rows {
+        let mut flow = flow_of(rt.alloc(), 7, true, &[0])?;
+        flow.frames = frames;
+        flow.lmin = lmin;
+        flow.lmax = lmax;
+        flow.cap = cap;
+        flow.p = p;
+        flow.q = q;
+        let plan = plan_with(rt.alloc(), 1, playout, &[sampled(1, 1, 8, 0, 16)], flow)?;
         assert_eq!(rt; outcome(plan), expected);
     }
     Ok(())
@@ -146,6 +375,54 @@ fn numbers_of_a_plan(rt: HostRuntime) -> Result<(), Fail> {
     assert_eq!(rt; plan.longest(), 12);
     assert_eq!(rt; plan.plan().carriers.len(), 3);
     assert_eq!(rt; (plan.delay(0), plan.delay(1), plan.delay(2)), (3, 14, 4));
+    assert_eq!(rt;
+        (plan.due(1, 0), plan.due(1, 1), plan.due(1, 11)),
+        (2, 3, 3)
+    );
+    assert_eq!(rt; plan.due(1, 1 << 40), 3);
+    assert_eq!(rt; (plan.due(2, 0), plan.due(2, 1)), (0, 1));
+    assert_eq!(rt; plan.ticks(100), 114);
+    Ok(())
+}
+
+// The usual plan: two carriers of 30.72 MHz and packets of four frames.
+#[test]
+fn numbers_of_a_flow(rt: HostRuntime) -> Result<(), Fail> {
+    let carriers = [sampled(8, 1, 15, 0, 240), sampled(8, 1, 15, 240, 240)];
+    let mut flow = flow_of(rt.alloc(), 7, true, &[0, 1])?;
+    flow.frames = 4;
+    flow.lmin = 10;
+    flow.lmax = 30;
+    flow.cap = 6;
+    flow.p = 256;
+    flow.q = 256;
+    let plan = plan_with(rt.alloc(), 3, 33, &carriers, flow)?;
+    let first = check(plan).ok().ok_or("refused")?;
+    let plan = first.copy(rt.alloc())?;
+    assert_eq!(rt; plan.plan().carriers.len(), 2);
+    assert_eq!(rt; plan.plan().flows.len(), 1);
+    assert_eq!(rt; (plan.delay(0), plan.delay(1)), (34, 34));
+    assert_eq!(rt; plan.need(0), 6);
+    assert_eq!(rt; plan.frame_octets(0), 64);
+    assert_eq!(rt;
+        (plan.packets(0, 0), plan.packets(0, 1), plan.packets(0, 4)),
+        (1, 1, 2)
+    );
+    assert_eq!(rt; plan.ticks(1), 35);
+    assert_eq!(rt; plan.due(1, 0), 8);
+    Ok(())
+}
+
+#[test]
+fn octets_of_a_frame(rt: HostRuntime) -> Result<(), Fail> {
+    let rows = [(Mode::Tunnel, 20), (Mode::Bytes, 16), (Mode::Aware, 12)];
+    for (mode, octets) in rows {
+        let mut plan = plan_of(rt.alloc(), 1, &[sampled(35, 12, 15, 0, 88)])?;
+        plan.mode = mode;
+        let plan = check(plan).ok().ok_or("refused")?;
+        assert_eq!(rt; plan.plan().flows.len(), 1);
+        assert_eq!(rt; plan.frame_octets(0), octets);
+    }
     Ok(())
 }
 

@@ -1,10 +1,11 @@
 // The size of a word by the line bit rate option.
-ghost use Rattle.std.specs.Prelude.{◌≡◌};
+ghost use Rattle.std.specs.Prelude.{◌≡◌, ◌≤◌};
 ghost use Rattle.plan_checker.specs.WordSize.{word_size};
 
 // The octets of a word, and 0 for an unknown option.
 pub(crate) fn octets_of_word(option: u32) -> usize
-    ensures { result ≡ word_size option }
+    ensures value { result ≡ word_size option }
+    ensures small { result ≤ 16 }
 {
     match option {
         1 => 1,
