@@ -1,5 +1,5 @@
 -- Flows with different ids, place by place.
-use Rattle.std.proofs.Common.{◌≡◌, ◌≢◌, ◌↔◌, ℕ, ◌<◌, IsTrue, true, false, List, length, get_or, arith, refl, subst, sym}
+use Rattle.std.proofs.Common.{◌≢◌, ◌↔◌, ℕ, ◌<◌, IsTrue, true, false, List, length, get_or, arith, refl, subst, sym}
 use Rattle.std.specs.List.{AllPairs, AllWithin, HoldsAt}
 use Rattle.std.proofs.lemmas.Bool.{false≢true}
 use Rattle.std.proofs.lemmas.List.{get_or_default}

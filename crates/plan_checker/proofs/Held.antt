@@ -1,12 +1,12 @@
 -- The greatest number of packets that may have to be held at one tick.
-use Rattle.std.proofs.Common.{◌≡◌, ℕ, ◌+◌, ◌-◌, ◌*◌, ◌/◌, ◌%◌, ◌<◌, ◌≤◌, zero, suc, min, List, [], ◌∷◌, length, get_or, arith, subst, inl, inr}
+use Rattle.std.proofs.Common.{◌≡◌, ℕ, ◌+◌, ◌-◌, ◌*◌, ◌<◌, ◌≤◌, zero, suc, List, [], ◌∷◌, length, get_or, arith, subst, inl, inr}
 use Rattle.std.specs.List.Sorted.{IsStrictlyIncreasing}
 use Rattle.std.proofs.lemmas.Bool.{cases_lt}
 use Rattle.std.proofs.lemmas.Nat.{mul-le}
 use Rattle.std.proofs.lemmas.Grind.{div_ceil_times}
 use Rattle.std.proofs.lemmas.List.Elements.{Contains-get_or}
 use Rattle.plan_checker.specs.Count.{HasCount}
-use Rattle.plan_checker.specs.Window.{last_frame, IsHeld, most_held, IsMostHeld}
+use Rattle.plan_checker.specs.Window.{IsHeld, most_held, IsMostHeld}
 use Rattle.plan_checker.proofs.Counting.{above_first, length-ascending, HasCount-range}
 
 -- two packets that are held at one tick are not further apart than what the first may be early

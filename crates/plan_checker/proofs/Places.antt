@@ -1,13 +1,12 @@
 -- What a plan that meets the rules says of a carrier or a flow that was read from it.
-use Rattle.std.proofs.Common.{◌≡◌, ℕ, ◌+◌, ◌-◌, ◌*◌, ◌/◌, ◌<◌, ◌≤◌, zero, suc, List, [], ◌∷◌, length, map, get_or, slice_index, All, Some, None, slice_get, ap, arith, refl, sym, subst, ◌∙◌}
+use Rattle.std.proofs.Common.{◌≡◌, ℕ, ◌<◌, ◌≤◌, zero, suc, List, [], ◌∷◌, length, map, get_or, slice_index, All, Some, slice_get, ap, arith, sym, subst, ◌∙◌}
 use Rattle.std.specs.List.{HoldsAt}
 use Rattle.std.proofs.lemmas.List.Elements.{at_read}
 use Rattle.carrier_plan.specs.declared.plan.Carrier.{Carrier}
 use Rattle.carrier_plan.specs.declared.plan.Flow.{Flow}
 use Rattle.carrier_plan.specs.declared.plan.Plan.{Plan}
 use Rattle.plan_checker.specs.SampleRate.{HasSampleRate}
-use Rattle.plan_checker.specs.Flows.{HasPayload, octets_of_frame}
-use Rattle.plan_checker.specs.Timing.{HasWindow, IsPlayedInTime}
+use Rattle.plan_checker.specs.Flows.{octets_of_frame}
 use Rattle.plan_checker.specs.Window.{IsMostHeld, most_held}
 use Rattle.plan_checker.specs.Run.{frame_octets_of, least_delays, packet_frames, packets_held}
 use Rattle.plan_checker.specs.Rules.{IsGood, IsMetBelow}

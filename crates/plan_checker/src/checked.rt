@@ -105,7 +105,8 @@ impl Checked {
     pub fn need(&self, f: usize) -> u64
         requires { f < length self.now.flows }
         ensures value { result ≡ packets_held self.now f }
-        ensures most { IsMostHeld (slice_index (packet_frames self.now) f) (slice_index (least_delays self.now) f) self.now.playout result }
+        ensures most { IsMostHeld (slice_index (packet_frames self.now) f) (slice_index (least_delays self.now) f)
+            self.now.playout result }
     {
         packets_held(self.plan.flows.at(f), self.plan.playout)
     }

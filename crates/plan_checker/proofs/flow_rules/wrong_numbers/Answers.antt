@@ -1,4 +1,4 @@
-use Rattle.std.proofs.Common.{◌<◌, ◌≤◌, length, All, arith}
+use Rattle.std.proofs.Common.{◌<◌, ◌≤◌, length, arith}
 use Rattle.carrier_plan.specs.declared.plan.Flow.{Flow}
 use Rattle.plan_checker.proofs.Places.{at_item_of, within_of, frames_at, window_at}
 use Rattle.plan_checker.proofs.flow_rules.wrong_numbers.Goals as goal

@@ -1,4 +1,4 @@
-use Rattle.std.proofs.Common.{◌<◌, ◌≤◌, length, All, arith}
+use Rattle.std.proofs.Common.{◌<◌, ◌≤◌, length, All}
 use Rattle.carrier_plan.specs.declared.plan.Flow.{Flow}
 use Rattle.plan_checker.proofs.Places.{at_item_of, within_of, few_at, known_at}
 use Rattle.plan_checker.proofs.flow_rules.wrong_payload.Goals as goal

@@ -1,4 +1,4 @@
-use Rattle.std.proofs.Common.{◌<◌, ◌≤◌, length, All, arith, below_more}
+use Rattle.std.proofs.Common.{◌<◌, ◌≤◌, length, arith, below_more}
 use Rattle.carrier_plan.specs.declared.plan.Flow.{Flow}
 use Rattle.plan_checker.specs.Rules.{Holds}
 use Rattle.plan_checker.specs.Rules.Rule.{BufferRoom}

@@ -1,4 +1,4 @@
-use Rattle.std.proofs.Common.{◌≡◌, ◌<◌, length, slice_index, arith}
+use Rattle.std.proofs.Common.{slice_index, arith}
 use Rattle.std.proofs.lemmas.List.Sums.{sum_by_more}
 use Rattle.carrier_plan.specs.declared.plan.Carrier.{Carrier}
 use Rattle.plan_checker.specs.Flows.{container_sizes}

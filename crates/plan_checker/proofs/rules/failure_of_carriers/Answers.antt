@@ -1,4 +1,3 @@
-use Rattle.std.proofs.Common.{refl}
 use Rattle.plan_checker.specs.Rules.{IsMetBelow}
 use Rattle.plan_checker.specs.Rules.Rule.{SampleRate, SampleWidth, ContainerSize, ContainerEnd, SeparateBits}
 use Rattle.plan_checker.proofs.Failures.{carrier_place, first_at, met_below_next}

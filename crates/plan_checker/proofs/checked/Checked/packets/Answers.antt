@@ -1,4 +1,4 @@
-use Rattle.std.proofs.Common.{◌≡◌, ◌+◌, ◌≤◌, ap, arith, slice_index, ◌∙◌}
+use Rattle.std.proofs.Common.{◌≡◌, ◌+◌, ap, arith, slice_index, ◌∙◌}
 use Rattle.std.specs.Int.{div_ceil}
 use Rattle.carrier_plan.specs.declared.plan.Flow.{Flow}
 use Rattle.plan_checker.specs.Run.{longest_block, packet_frames}
