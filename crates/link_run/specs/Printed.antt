@@ -5,7 +5,7 @@ use Rattle.std.specs.List.{range_with_len}
 use Rattle.carrier_plan.specs.declared.plan.Plan.{Plan}
 use Rattle.carrier_plan.specs.declared.fault.PlanText.{PlanText}
 use Rattle.carrier_plan.specs.Printed.{plan_text_line}
-use Rattle.plan_checker.specs.Run.{delay_of}
+use Rattle.plan_checker.specs.Run.{delay_of, packets_held}
 
 abbrev pub ended : List ℕ → List ℕ
 ended line = line ++ 10 ∷ []
@@ -14,9 +14,17 @@ ended line = line ++ 10 ∷ []
 unfoldable pub delay_line : Plan → ℕ → List ℕ
 delay_line p c = codes "carrier " ++ decimal c ++ codes " delay " ++ decimal (delay_of p c) ++ 10 ∷ []
 
--- of a plan that meets the rules: yes, and the delay of each carrier
+-- how many packets the buffer of the flow at place f has to hold
+unfoldable pub need_line : Plan → ℕ → List ℕ
+need_line p f = codes "flow " ++ decimal f ++ codes " holds " ++ decimal (packets_held p f) ++ 10 ∷ []
+
+-- a line for each of the first n places
+abbrev pub lines_below : (ℕ → List ℕ) → ℕ → List ℕ
+lines_below line n = flat_map line (range_with_len 0 n)
+
+-- of a plan that meets the rules: yes, the delay of each carrier, and the need of each flow
 unfoldable pub yes_text : Plan → List ℕ
-yes_text p = ended (codes "yes") ++ flat_map (delay_line p) (range_with_len 0 (length p.carriers))
+yes_text p = (ended (codes "yes") ++ lines_below (delay_line p) (length p.carriers)) ++ lines_below (need_line p) (length p.flows)
 
 -- of a plan that fails this rule first, at this item
 unfoldable pub no_text : ℕ → ℕ → List ℕ

@@ -45,21 +45,30 @@ fn explain_file(rt: &impl Eprint, name: &str, shelf: &FileShelf<'_>) -> io::Resu
 // The rule in words, and where it fails.
 fn explain_rule(rt: &impl Eprint, rule: u32, item: u32) -> io::Result<()> {
     let sentence = sentence_of(rule);
-    if rule < 3 {
-        return eprintln!(rt; "rule {rule}: {sentence}");
+    match rule {
+        4..=8 => eprintln!(rt; "rule {rule}, carrier {item}: {sentence}"),
+        10..=14 => eprintln!(rt; "rule {rule}, flow {item}: {sentence}"),
+        _ => eprintln!(rt; "rule {rule}: {sentence}"),
     }
-    eprintln!(rt; "rule {rule}, carrier {item}: {sentence}")
 }
 
 fn sentence_of(rule: u32) -> &'static str {
     match rule {
         1 => "the line option is none of 1 to 7",
-        2 => "there are not 1 to 64 carriers",
+        2 => "there are not 1 to 64 carriers and 1 to 8 flows",
+        3 => "in this mode one flow has to carry all carriers in order, with control",
         4 => "its rate is out of range, or S and K are not in lowest terms",
         5 => "its samples do not have 4 to 20 bits",
         6 => "its container does not have the size that its method prescribes",
         7 => "its container ends beyond the IQ bits of the frame",
         8 => "its container shares bits with the container of an earlier carrier",
+        9 =>
+            "flow ids are not distinct, or the flows do not share out the carriers, or not one flow has control",
+        10 => "its packets have not 1 to 64 frames, or not 1 to 1,492 octets of payload",
+        11 => "its window is not in order, or ends after 100,000 ticks",
+        12 => "playout comes before the window of its last frame closes, or after 200,000 ticks",
+        13 => "its sequence numbers are too few for the packets whose windows are open at once",
+        14 => "its buffer is too small for the packets that it may have to hold",
         _ => "it does not hold",
     }
 }

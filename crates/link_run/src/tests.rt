@@ -13,7 +13,15 @@ const TOP: &str = "version = 1\noption = 1\nmode = \"bytes\"\nplayout = 2\n";
 /// One carrier of one sample in each frame, with 8 bits of I and of Q.
 const CARRIER: &str = "[[carrier]]\nmethod = 1\ns = 1\nk = 1\nm = 8\nstart = 0\nsize = 16\n";
 
-const YES: &str = "yes\ncarrier 0 delay 3\n";
+/// A flow of two carriers, of one frame in a packet.
+const BOTH_CARRIERS: &str =
+    "[[flow]]\nid = 7\ndst = \"020000000001\"\nsrc = \"020000000002\"\ncontrol = true\ncarriers = [0, 1]\nframes = 1\nlmin = 0\nlmax = 2\ncap = 3\np = 4\nq = 4\n";
+
+/// One flow of that carrier, of one frame in a packet.
+const FLOW: &str =
+    "[[flow]]\nid = 7\ndst = \"020000000001\"\nsrc = \"020000000002\"\ncontrol = true\ncarriers = [0]\nframes = 1\nlmin = 0\nlmax = 2\ncap = 3\np = 4\nq = 4\n";
+
+const YES: &str = "yes\ncarrier 0 delay 3\nflow 0 holds 3\n";
 
 const AMPLE: usize = 4096;
 
@@ -59,9 +67,10 @@ fn check_file(alloc: Global, file: &[u8]) -> Result<Outcome, NoMemory> {
     run_on(alloc, &["check", "a"], file, AMPLE, AMPLE, None)
 }
 
-fn plan_of(alloc: Global, top: &str, carriers: &str) -> Result<String, NoMemory> {
+fn plan_of(alloc: Global, top: &str, carriers: &str, flows: &str) -> Result<String, NoMemory> {
     let mut text = String::from_str(alloc, top)?;
     text.push_str(carriers)?;
+    text.push_str(flows)?;
     Ok(text)
 }
 
@@ -95,7 +104,7 @@ fn a_plan_is_answered_by_its_first_failure(rt: HostRuntime) -> Result<(), Fail> 
         ("", "no 2 0\n", Status::No { rule: 2, item: 0 }),
     ];
     for (carriers, text, status) in rows {
-        let plan = plan_of(rt.alloc(), TOP, carriers)?;
+        let plan = plan_of(rt.alloc(), TOP, carriers, FLOW)?;
         let outcome = check_file(rt.alloc(), plan.as_str().as_bytes())?;
         assert_eq!(rt; outcome.text.as_slice(), text.as_bytes(), "{carriers}");
         assert_eq!(rt; outcome.status, status, "{carriers}");
@@ -105,8 +114,8 @@ fn a_plan_is_answered_by_its_first_failure(rt: HostRuntime) -> Result<(), Fail> 
 
 #[test]
 fn two_equal_carriers_share_their_bits(rt: HostRuntime) -> Result<(), Fail> {
-    let one = plan_of(rt.alloc(), TOP, CARRIER)?;
-    let two = plan_of(rt.alloc(), one.as_str(), CARRIER)?;
+    let one = plan_of(rt.alloc(), TOP, CARRIER, CARRIER)?;
+    let two = plan_of(rt.alloc(), one.as_str(), BOTH_CARRIERS, "")?;
     let outcome = check_file(rt.alloc(), two.as_str().as_bytes())?;
     assert_eq!(rt; outcome.text.as_slice(), b"no 8 1\n".as_slice());
     assert_eq!(rt; outcome.status, Status::No { rule: 8, item: 1 });
@@ -161,7 +170,7 @@ fn a_file_that_is_no_plan_is_told_by_its_fault(rt: HostRuntime) -> Result<(), Fa
         ),
     ];
     for (carrier, text) in carriers {
-        let plan = plan_of(rt.alloc(), TOP, carrier)?;
+        let plan = plan_of(rt.alloc(), TOP, carrier, FLOW)?;
         let outcome = check_file(rt.alloc(), plan.as_str().as_bytes())?;
         assert_eq!(rt; outcome.text.as_slice(), text.as_bytes(), "{text}");
         assert_eq!(rt; code(&outcome.status), 3, "{text}");
@@ -171,7 +180,7 @@ fn a_file_that_is_no_plan_is_told_by_its_fault(rt: HostRuntime) -> Result<(), Fa
 
 #[test]
 fn a_plan_of_65536_octets_is_read_and_a_longer_one_is_long(rt: HostRuntime) -> Result<(), Fail> {
-    let plan = plan_of(rt.alloc(), TOP, CARRIER)?;
+    let plan = plan_of(rt.alloc(), TOP, CARRIER, FLOW)?;
     let mut octets = Vec::from_slice(rt.alloc(), plan.as_str().as_bytes())?;
     for _ in octets.len()..65_536 {
         octets.push(b'#')?;
@@ -187,7 +196,7 @@ fn a_plan_of_65536_octets_is_read_and_a_longer_one_is_long(rt: HostRuntime) -> R
 
 #[test]
 fn a_read_fault_writes_nothing(rt: HostRuntime) -> Result<(), Fail> {
-    let plan = plan_of(rt.alloc(), TOP, CARRIER)?;
+    let plan = plan_of(rt.alloc(), TOP, CARRIER, FLOW)?;
     let file = plan.as_str().as_bytes();
     for offset in 0..file.len() + 1 {
         let outcome = run_on(
@@ -208,7 +217,7 @@ fn a_read_fault_writes_nothing(rt: HostRuntime) -> Result<(), Fail> {
 
 #[test]
 fn a_write_fault_leaves_the_first_octets(rt: HostRuntime) -> Result<(), Fail> {
-    let plan = plan_of(rt.alloc(), TOP, CARRIER)?;
+    let plan = plan_of(rt.alloc(), TOP, CARRIER, FLOW)?;
     let file = plan.as_str().as_bytes();
     for room in 0..YES.len() {
         let outcome = run_on(rt.alloc(), &["check", "a"], file, AMPLE, room, None)?;
@@ -224,7 +233,7 @@ fn a_write_fault_leaves_the_first_octets(rt: HostRuntime) -> Result<(), Fail> {
 
 #[test]
 fn the_pieces_do_not_matter(rt: HostRuntime) -> Result<(), Fail> {
-    let plan = plan_of(rt.alloc(), TOP, CARRIER)?;
+    let plan = plan_of(rt.alloc(), TOP, CARRIER, FLOW)?;
     let file = plan.as_str().as_bytes();
     for piece in [1, 2, 7, AMPLE] {
         assert!(rt; piece > 0);

@@ -1,6 +1,6 @@
 // What `check` says of the octets of a plan's file.
 ghost use Rattle.std.specs.Prelude.{◌≡◌, ◌<◌, ◌++◌, length, IfOk, OnOk, string_bytes};
-ghost use Rattle.link_run.specs.Printed.{yes_text, no_text, fault_text, delay_line};
+ghost use Rattle.link_run.specs.Printed.{yes_text, no_text, fault_text, delay_line, need_line, lines_below};
 ghost use Rattle.link_run.specs.Answer.{IsPlanAnswer, IsVerdict};
 ghost use Rattle.carrier_plan.specs.PlanOf.{plan_of};
 
@@ -27,15 +27,44 @@ fn put_delay(text: &mut String, checked: &Checked, c: usize) -> Result<(), Alloc
     writeln!(text, "carrier {c} delay {delay}")
 }
 
-// Yes, and the delay of each carrier.
+// The line of flow `f`.
+#[tactic(auto, unfolding(crate::specs::Printed::need_line))]
+fn put_need(text: &mut String, checked: &Checked, f: usize) -> Result<(), AllocError>
+    requires { f < length checked.now.flows }
+    ensures { OnOk result (string_bytes text.new ≡ string_bytes text.old ++ need_line checked.now f) }
+{
+    let need = checked.need(f);
+    writeln!(text, "flow {f} holds {need}")
+}
+
+// The lines of all carriers.
+fn put_delays(text: &mut String, checked: &Checked) -> Result<(), AllocError>
+    ensures { OnOk result (string_bytes text.new ≡ string_bytes text.old ++ lines_below (delay_line checked.now) (length checked.now.carriers)) }
+{
+    for c in 0..checked.plan().carriers.len() {
+        put_delay(text, checked, c)?;
+    }
+    Ok(())
+}
+
+// The lines of all flows.
+fn put_needs(text: &mut String, checked: &Checked) -> Result<(), AllocError>
+    ensures { OnOk result (string_bytes text.new ≡ string_bytes text.old ++ lines_below (need_line checked.now) (length checked.now.flows)) }
+{
+    for f in 0..checked.plan().flows.len() {
+        put_need(text, checked, f)?;
+    }
+    Ok(())
+}
+
+// Yes, the delay of each carrier, and what the buffer of each flow has to hold.
 #[tactic(auto, unfolding(crate::specs::Printed::yes_text))]
 fn yes(alloc: Global, checked: &Checked) -> Result<String, AllocError>
     ensures { IfOk result (λ text. string_bytes text ≡ yes_text checked.now) }
 {
     let mut text = String::from_str(alloc, "yes\n")?;
-    for c in 0..checked.plan().carriers.len() {
-        put_delay(&mut text, checked, c)?;
-    }
+    put_delays(&mut text, checked)?;
+    put_needs(&mut text, checked)?;
     Ok(text)
 }
 
