@@ -57,30 +57,39 @@ fn lines_before_a_stop_come_first(rt: HostRuntime) {
     }
 }
 
+/// Compares the answers for a file of this first line of so many octets.
+fn compare_long(rt: &impl Abort, alloc: Global, piece: usize) {
+    let mut octets = [b'x'; 4098];
+    octets[4096] = b'\n';
+    octets[4097] = b'y';
+    let mut shelf = shelf_of(rt, alloc, piece, &octets);
+    let mut reader = begin(rt, alloc, &mut shelf);
+    assert_eq!(rt; reader.next(&mut shelf), Line::Text(&octets[..4096]));
+    compare_last(rt, &mut reader, &mut shelf, Line::Unended);
+
+    let mut shelf = shelf_of(rt, alloc, piece, &octets[..4096]);
+    let mut reader = begin(rt, alloc, &mut shelf);
+    compare_last(rt, &mut reader, &mut shelf, Line::Unended);
+}
+
+/// Compares the answers for more octets than a line has, with and without a line feed behind them.
+fn compare_too_long(rt: &impl Abort, alloc: Global, piece: usize) {
+    let mut octets = [b'x'; 4098];
+    octets[4097] = b'\n';
+    let mut shelf = shelf_of(rt, alloc, piece, &octets);
+    let mut reader = begin(rt, alloc, &mut shelf);
+    compare_last(rt, &mut reader, &mut shelf, Line::TooLong);
+
+    let mut shelf = shelf_of(rt, alloc, piece, &octets[..4097]);
+    let mut reader = begin(rt, alloc, &mut shelf);
+    compare_last(rt, &mut reader, &mut shelf, Line::TooLong);
+}
+
 #[test]
 fn long_lines_and_unended_ones(rt: HostRuntime) {
-    let mut octets = vec![in rt.alloc(); b'x'; 4098].expect(&rt, "memory");
     for piece in [7, 4096, 8192] {
-        octets[4096] = b'\n';
-        octets[4097] = b'y';
-        let mut shelf = shelf_of(&rt, rt.alloc(), piece, &octets);
-        let mut reader = begin(&rt, rt.alloc(), &mut shelf);
-        assert_eq!(rt; reader.next(&mut shelf), Line::Text(&octets[..4096]));
-        compare_last(&rt, &mut reader, &mut shelf, Line::Unended);
-
-        let mut shelf = shelf_of(&rt, rt.alloc(), piece, &octets[..4096]);
-        let mut reader = begin(&rt, rt.alloc(), &mut shelf);
-        compare_last(&rt, &mut reader, &mut shelf, Line::Unended);
-
-        octets[4096] = b'x';
-        octets[4097] = b'\n';
-        let mut shelf = shelf_of(&rt, rt.alloc(), piece, &octets);
-        let mut reader = begin(&rt, rt.alloc(), &mut shelf);
-        compare_last(&rt, &mut reader, &mut shelf, Line::TooLong);
-
-        let mut shelf = shelf_of(&rt, rt.alloc(), piece, &octets[..4097]);
-        let mut reader = begin(&rt, rt.alloc(), &mut shelf);
-        compare_last(&rt, &mut reader, &mut shelf, Line::TooLong);
+        compare_long(&rt, rt.alloc(), piece);
+        compare_too_long(&rt, rt.alloc(), piece);
     }
     let mut shelf = shelf_of(&rt, rt.alloc(), 1, b"");
     let mut reader = begin(&rt, rt.alloc(), &mut shelf);
