@@ -10,17 +10,14 @@ use Rattle.hex.proofs.HexLemmas.{length-encode_with, decode_of-encode_lower, IsO
 use Rattle.std.specs.Result.{result_ok}
 use Rattle.link_text.specs.Hexadecimal.{spelled_octets}
 
--- which texts are answered
-pub found : (text : List ℕ) (n : ℕ) (r : Result (Unit {0}) FromHexError) (out : List ℕ)
+-- which texts are decoded into room for half as many octets
+pub decoded_digits : (text : List ℕ) (n : ℕ) (r : Result (Unit {0}) FromHexError) (out : List ℕ)
     → MatchResult (decode_sized text n) (λ bytes. (r ≡ Ok tt) × (out ≡ bytes)) (λ e. r ≡ Err e)
-    → n ≡ length text / 2 → 0 < n
-    → IsOk r ↔ ((0 < length text) × (length text % 2 ≡ 0) × AllPass is_hex_digit text)
-found text n r out answered half some =
+    → length text ≡ 2 * n → IsOk r ↔ AllPass is_hex_digit text
+decoded_digits text n r out answered len =
     let written = IsOk-written (decode_sized text n) r out answered in
-    let digits = IsOk-decode_sized text n in (
-      λ ok. let parts = digits.0 (written.0 ok) in (omega (arith, parts.0), omega (arith, parts.0), parts.1),
-      λ h. written.1 (digits.1 (omega (arith, h.1), h.2)),
-    )
+    let digits = IsOk-decode_sized text n in
+    (λ ok. (digits.0 (written.0 ok)).1, λ all. written.1 (digits.1 (len, all)))
 
 -- the digits of one octet more
 encode_with-append : (t xs ys : List ℕ) → encode_with t (xs ++ ys) ≡ encode_with t xs ++ encode_with t ys

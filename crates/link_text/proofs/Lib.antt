@@ -1,5 +1,6 @@
 pub mod DecimalLemmas
 pub mod HexadecimalLemmas
+pub mod LaneLemmas
 pub mod Advances
 pub mod Answered
 pub mod LineLemmas

@@ -1,4 +1,5 @@
 pub mod Decimals
 pub mod Hexadecimal
+pub mod Lanes
 pub mod Lines
 pub mod LineBuffer

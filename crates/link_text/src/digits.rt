@@ -1,13 +1,27 @@
 // Octets as hexadecimal digits.
-ghost use Rattle.std.specs.Prelude.{◌≡◌, ℕ, List, ◌+◌, ◌*◌, ◌/◌, ◌%◌, ◌<◌, ◌≤◌, ◌↔◌, [], ◌∷◌, ◌++◌, slice_index, take, drop, length, Some, IsSome, IfSome};
+ghost use Rattle.std.specs.Prelude.{◌≡◌, ℕ, List, ◌+◌, ◌*◌, ◌/◌, ◌%◌, ◌<◌, ◌≤◌, ◌↔◌, [], ◌∷◌, ◌++◌, slice_index, take, drop, length, Some, IsSome, IfSome, IsTrue, Ok};
 ghost use Rattle.std.specs.List.{AllPass};
 ghost use Rattle.arrayvec.specs.ArrayVec.{array_vec_len};
-ghost use Rattle.hex.specs.Hex.{is_hex_digit, encode_lower, lower_digits, IsBytes};
+ghost use Rattle.hex.specs.Hex.{decode_of, is_hex_digit, encode_lower, lower_digits, IsBytes};
 ghost use Rattle.link_text.specs.Hexadecimal.{spelled_octets};
 
+use crate::lanes;
 use arrayvec::ArrayVec;
 
 const DIGITS: [u8; 16] = *b"0123456789abcdef";
+
+// Puts the octets that the digits of a text spell, and says whether it has digits alone.
+fn decode(text: &[u8], out: &mut [u8]) -> bool
+    requires { length text.now ≡ 2 * length out.old }
+    ensures digits { IsTrue result ↔ AllPass is_hex_digit text.now }
+    ensures value { IsTrue result → decode_of text.now ≡ Ok out.new }
+    ensures len { length out.new ≡ length out.old }
+{
+    if out.len() < lanes::OCTETS {
+        return hex::decode_to_slice(text, out).is_ok();
+    }
+    lanes::decode(text, out)
+}
 
 /// Puts the octets that a text of hexadecimal digits spells to the front of `out`, and says how many they are. None
 /// where the text is empty or of an odd length, or has an octet that is no digit; half its length of `out` is then open.
@@ -19,13 +33,10 @@ pub fn octets(text: &[u8], out: &mut [u8]) -> Option<usize>
     ensures others { drop (length text.now / 2) out.new ≡ drop (length text.now / 2) out.old }
 {
     let half = text.len() / 2;
-    if half == 0 {
+    if text.is_empty() || text.len() % 2 != 0 {
         return None;
     }
-    match hex::decode_to_slice(text, &mut out[..half]) {
-        Ok(()) => Some(half),
-        Err(_) => None,
-    }
+    decode(text, &mut out[..half]).then_some(half)
 }
 
 // Appends the digit of a number below 16.

@@ -3,6 +3,7 @@
 
 mod buffer;
 mod digits;
+mod lanes;
 mod laws;
 mod lines;
 mod numbers;

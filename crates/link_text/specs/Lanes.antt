@@ -1,0 +1,19 @@
+-- Hexadecimal digits and octets place by place.
+use Rattle.std.specs.Prelude.{ℕ, ◌+◌, ◌*◌, ◌%◌, ◌<◌, ◌≤◌, IsTrue, List, slice_index, unwrap_or}
+use Rattle.hex.specs.Hex.{hex_digit_value, is_hex_digit}
+
+-- the value of a digit, and 255 for an octet that is no digit
+abbrev pub value_or_255 : ℕ → ℕ
+value_or_255 c = unwrap_or (hex_digit_value c) 255
+
+-- the octet of two values of digits
+abbrev pub joined : ℕ → ℕ → ℕ
+joined high low = (high * 16 % 256 + low) % 256
+
+-- the octet at a place, by the two digits of the text that are for it
+abbrev pub octet_at : List ℕ → ℕ → ℕ
+octet_at text k = joined (value_or_255 (slice_index text (2 * k))) (value_or_255 (slice_index text (2 * k + 1)))
+
+-- the text has digits at these places
+abbrev pub DigitsBetween : List ℕ → ℕ → ℕ → Type 0
+DigitsBetween text start end = (j : ℕ) → start ≤ j → j < end → IsTrue (is_hex_digit (slice_index text j))

@@ -1,0 +1,72 @@
+// Hexadecimal digits to octets, many digits at once: a digit a lane.
+ghost use Rattle.std.specs.Prelude.{◌≡◌, ℕ, ◌+◌, ◌*◌, ◌<◌, ◌≤◌, ◌↔◌, ◌++◌, IsTrue, List, Ok, length, map, slice_index};
+ghost use Rattle.std.specs.List.{AllPass, range_with_len};
+ghost use Rattle.hex.specs.Hex.{decode_of, is_hex_digit};
+ghost use Rattle.link_text.specs.Lanes.{value_or_255, joined, octet_at, DigitsBetween};
+
+use std::simd::prelude::*;
+
+/// How many octets are had at once, from twice as many digits.
+pub(crate) const OCTETS: usize = 32;
+
+// The value of each digit, and 255 for an octet that is no digit.
+#[inline(always)]
+fn values(digits: u8x32) -> u8x32
+    ensures { result ≡ map value_or_255 digits }
+{
+    let number = digits - u8x32::splat(b'0');
+    let letter = (digits | u8x32::splat(0x20)) - u8x32::splat(b'a');
+    let above_nine = letter
+        .simd_lt(u8x32::splat(6))
+        .select(letter + u8x32::splat(10), u8x32::splat(255));
+    number.simd_lt(u8x32::splat(10)).select(number, above_nine)
+}
+
+#[inline(always)]
+fn are_digits(values: u8x32) -> bool
+    ensures { IsTrue result ↔ ((k : ℕ) → k < 32 → slice_index values k < 16) }
+{
+    values.simd_ge(u8x32::splat(16)).to_bitmask() == 0
+}
+
+// The octets of pairs of values, the first of a pair for the higher half.
+#[inline(always)]
+fn pairs(first: u8x32, second: u8x32) -> u8x32
+    ensures { result ≡ map (λ k. joined (slice_index (first ++ second) (2 * k)) (slice_index (first ++ second) (2 * k + 1))) (range_with_len 0 32) }
+{
+    let (high, low) = first.deinterleave(second);
+    high * u8x32::splat(16) + low
+}
+
+// Puts the octets of 64 digits, those from `2 * at` on, and says whether they all are digits.
+#[inline(always)]
+fn put_octets(text: &[u8], at: usize, out: &mut [u8]) -> bool
+    requires source { 2 * at + 64 ≤ length text.now }
+    requires room { at + 32 ≤ length out.old }
+    ensures digits { IsTrue result ↔ DigitsBetween text.now (2 * at) (2 * at + 64) }
+    ensures len { length out.new ≡ length out.old }
+    ensures octets { (k : ℕ) → at ≤ k → k < at + 32 → slice_index out.new k ≡ octet_at text.now k }
+    ensures before { (k : ℕ) → k < at → slice_index out.new k ≡ slice_index out.old k }
+{
+    let first = values(u8x32::from_slice(&text[2 * at..]));
+    let second = values(u8x32::from_slice(&text[2 * at + 32..]));
+    pairs(first, second).copy_to_slice(&mut out[at..]);
+    are_digits(first) & are_digits(second)
+}
+
+/// Puts the octets that the digits of a text spell, and says whether it has digits alone.
+pub(crate) fn decode(text: &[u8], out: &mut [u8]) -> bool
+    requires some { OCTETS ≤ length out.old }
+    requires room { length text.now ≡ 2 * length out.old }
+    ensures digits { IsTrue result ↔ AllPass is_hex_digit text.now }
+    ensures value { IsTrue result → decode_of text.now ≡ Ok out.new }
+    ensures len { length out.new ≡ length out.old }
+{
+    for step in 0..(out.len() - 1) / OCTETS {
+        if !put_octets(text, OCTETS * step, out) {
+            return false;
+        }
+    }
+    // The last octets are put where they end with the text: some of them a second time.
+    put_octets(text, out.len() - OCTETS, out)
+}
