@@ -1,15 +1,15 @@
 -- Vectors of hexadecimal digits, lane by lane, and the octets of a text put together from them.
-use Rattle.std.proofs.Common.{◌≡◌, ◌↔◌, ℕ, zero, suc, ◌+◌, ◌-◌, ◌*◌, ◌/◌, ◌%◌, ◌^◌, ◌<◌, ◌≤◌, Bool, true, false, ◌&&◌, IsTrue, cond, eqb, leb, nat_eq, List, [], ◌∷◌, ◌++◌, length, get_or, map, replicate, Option, Some, None, is_some, unwrap_or, Ok, Fits, w8, inl, inr, refl, sym, ap, ap₂, subst, ◌∙◌, arith}
+use Rattle.std.proofs.Common.{◌≡◌, ◌↔◌, ℕ, zero, suc, ◌+◌, ◌-◌, ◌*◌, ◌%◌, ◌^◌, ◌<◌, ◌≤◌, Bool, true, ◌&&◌, IsTrue, cond, eqb, leb, nat_eq, List, [], ◌∷◌, ◌++◌, length, get_or, map, replicate, Option, Some, None, is_some, unwrap_or, Ok, Fits, w8, inl, inr, refl, sym, ap, ap₂, subst, ◌∙◌, arith}
 use Rattle.std.specs.Prelude.{slice_index}
 use Rattle.std.specs.List.{AllPass, range_with_len}
 use Rattle.std.specs.Simd.Lanes.{zip2, sel_l, mask_l, top, chunk, put_chunk, Each1}
-use Rattle.std.proofs.lemmas.Bool.{and_parts, agree_below, agree_below_at, eqb-true, cases_lt, leb-true, leb-false}
+use Rattle.std.proofs.lemmas.Bool.{and_parts, agree_below, agree_below_at, eqb-true, cases_lt}
 use Rattle.std.proofs.lemmas.Bool.Decides.{nat_tests}
-use Rattle.std.proofs.lemmas.Simd.{zip2_splat_left, tops_compared, mask_l-mod, length-chunk, get_or-chunk, get_or-put_chunk_at, get_or-put_chunk_below}
+use Rattle.std.proofs.lemmas.Simd.{zip2_splat_left, tops_compared, mask_l-mod, length-chunk, get_or-chunk, get_or-put_chunk_at}
 use Rattle.std.proofs.lemmas.List.{get_or-map, length-map, get_or_append_left, get_or-append_right}
 use Rattle.std.proofs.lemmas.List.FromFn.{get_or-map-range_with_len, length-map-range_with_len}
 use Rattle.std.proofs.lemmas.List.Elements.{All-get_or, All-from_get_or}
-use Rattle.hex.specs.Hex.{decode_of, decode_pairs, digit_or_error, hex_digit_value, is_hex_digit, pair_value}
+use Rattle.hex.specs.Hex.{decode_of, decode_pairs, hex_digit_value, is_hex_digit, pair_value}
 use Rattle.hex.proofs.HexLemmas.{decode_of-even}
 use Rattle.hex.proofs.Pairs.{cons_byte, decode_pairs-ok_pair}
 use Rattle.link_text.specs.Lanes.{value_or_255, joined, octet_at, DigitsBetween}

@@ -1,10 +1,10 @@
 -- What a caller of `next` learns of its answer, for a reader that has not ended.
-use Rattle.std.proofs.Common.{◌≡◌, ℕ, ◌+◌, ◌≤◌, List, ◌∷◌, ◌++◌, length, sym, ◌∙◌, ap, subst, Option, Some, None, IsTrue, Bor, MatchOption, append_assoc}
+use Rattle.std.proofs.Common.{◌≡◌, ℕ, ◌+◌, ◌≤◌, List, ◌∷◌, ◌++◌, length, sym, ◌∙◌, ap, subst, Some, None, IsTrue, Bor, MatchOption, append_assoc}
 use Rattle.link_base.specs.Shelf.{Shown}
 use Rattle.link_text.specs.declared.lines.Line.{Line}
 use Rattle.link_text.specs.declared.lines.Line.TheVariants.{Text}
 use Rattle.link_text.specs.declared.lines.Ending.{Ending}
-use Rattle.link_text.specs.Lines.{lines_of, rest_of, with_feeds, IsLine, Reading, Stops, Gives, GivesNext, Keeps, Took, ending_of}
+use Rattle.link_text.specs.Lines.{lines_of, rest_of, IsLine, Reading, Stops, GivesNext, Keeps, Took, ending_of}
 use Rattle.link_text.proofs.LinesOf.{lines_of-line, rest_of-line}
 use Rattle.link_text.proofs.Answered.{Stops-answer}
 
