@@ -166,6 +166,42 @@ fn digits_of_either_case_are_read(rt: HostRuntime) {
     }
 }
 
+/// The octets 0, 1, 2 and so on, up to 100 of them, as digits.
+fn counted() -> [u8; 200] {
+    let mut text = [0; 200];
+    for k in 0..100 {
+        text[2 * k] = b"0123456"[k / 16];
+        text[2 * k + 1] = b"0123456789aBcDeF"[k % 16];
+    }
+    text
+}
+
+#[test]
+fn long_texts_are_read_whole(rt: HostRuntime) {
+    let mut text = counted();
+    for count in [31, 32, 33, 63, 64, 65, 100] {
+        let mut out = [255; 101];
+        assert_eq!(rt; octets(&text[..2 * count], &mut out), Some(count));
+        for k in 0..101 {
+            let want = if k < count { k as u8 } else { 255 };
+            assert_eq!(rt; out[k], want, "octet {k} of {count}");
+        }
+        assert_eq!(rt; octets(&text[..2 * count - 1], &mut out), None);
+        for place in [0, count, 2 * count - 1] {
+            let digit = text[place];
+            for stranger in *b"/:@G`g\x00\xb0" {
+                text[place] = stranger;
+                assert_eq!(rt;
+                    octets(&text[..2 * count], &mut out),
+                    None,
+                    "{stranger} at {place}"
+                );
+            }
+            text[place] = digit;
+        }
+    }
+}
+
 #[test]
 fn numbers_and_digits_are_written(rt: HostRuntime) {
     let mut out = ArrayVec::new();
