@@ -1,7 +1,7 @@
 -- Vectors of hexadecimal digits, lane by lane, and the octets of a text put together from them.
 use Rattle.std.proofs.Common.{◌≡◌, ◌↔◌, ℕ, zero, suc, ◌+◌, ◌-◌, ◌*◌, ◌%◌, ◌^◌, ◌<◌, ◌≤◌, Bool, true, ◌&&◌, IsTrue, cond, eqb, leb, nat_eq, List, [], ◌∷◌, ◌++◌, length, get_or, map, replicate, Option, Some, None, is_some, unwrap_or, Ok, Fits, w8, inl, inr, refl, sym, ap, ap₂, subst, ◌∙◌, arith}
 use Rattle.std.specs.Prelude.{slice_index}
-use Rattle.std.specs.List.{AllPass, range_with_len}
+use Rattle.std.specs.List.{AllPass}
 use Rattle.std.specs.Simd.Lanes.{zip2, sel_l, mask_l, top, chunk, put_chunk, Each1}
 use Rattle.std.proofs.lemmas.Bool.{and_parts, agree_below, agree_below_at, eqb-true, cases_lt}
 use Rattle.std.proofs.lemmas.Bool.Decides.{nat_tests}
@@ -12,7 +12,7 @@ use Rattle.std.proofs.lemmas.List.Elements.{All-get_or, All-from_get_or}
 use Rattle.hex.specs.Hex.{decode_of, decode_pairs, hex_digit_value, is_hex_digit, pair_value}
 use Rattle.hex.proofs.HexLemmas.{decode_of-even}
 use Rattle.hex.proofs.Pairs.{cons_byte, decode_pairs-ok_pair}
-use Rattle.link_text.specs.Lanes.{value_or_255, joined, octet_at, DigitsBetween}
+use Rattle.link_text.specs.Lanes.{value_or_255, joined, pairs_of, octet_at, DigitsBetween}
 
 -- the value that the vectors' operations give one octet
 abbrev pub lane_value : (or sub add lt : ℕ → ℕ → ℕ) → ℕ → ℕ
@@ -144,9 +144,6 @@ digits_told text a p q within first second = (
 )
 
 -- the octets of two vectors are those of the text
-abbrev pub pairs_of : List ℕ → List ℕ
-pairs_of values = map (λ k. joined (slice_index values (2 * k)) (slice_index values (2 * k + 1))) (range_with_len 0 32)
-
 pub octets_put : (text out first second octets : List ℕ) (at : ℕ)
     → first ≡ map value_or_255 (chunk (2 * at) 32 text) → second ≡ map value_or_255 (chunk (2 * at + 32) 32 text) → octets ≡ pairs_of (first ++ second)
     → 2 * at + 64 ≤ length text → at + 32 ≤ length out → (k : ℕ) → at ≤ k → k < at + 32

@@ -1,14 +1,19 @@
 -- Hexadecimal digits and octets place by place.
-use Rattle.std.specs.Prelude.{ℕ, ◌+◌, ◌*◌, ◌%◌, ◌<◌, ◌≤◌, IsTrue, List, slice_index, unwrap_or}
+use Rattle.std.specs.Prelude.{ℕ, ◌+◌, ◌*◌, ◌%◌, ◌<◌, ◌≤◌, IsTrue, List, map, slice_index, unwrap_or}
+use Rattle.std.specs.List.{range_with_len}
 use Rattle.hex.specs.Hex.{hex_digit_value, is_hex_digit}
 
 -- the value of a digit, and 255 for an octet that is no digit
 abbrev pub value_or_255 : ℕ → ℕ
 value_or_255 c = unwrap_or (hex_digit_value c) 255
 
--- the octet of two values of digits
+-- the octet of two values of digits, in eight bits
 abbrev pub joined : ℕ → ℕ → ℕ
 joined high low = (high * 16 % 256 + low) % 256
+
+-- the 32 octets of 64 values, two for each
+abbrev pub pairs_of : List ℕ → List ℕ
+pairs_of values = map (λ k. joined (slice_index values (2 * k)) (slice_index values (2 * k + 1))) (range_with_len 0 32)
 
 -- the octet at a place, by the two digits of the text that are for it
 abbrev pub octet_at : List ℕ → ℕ → ℕ

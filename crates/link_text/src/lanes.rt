@@ -1,8 +1,8 @@
 // Hexadecimal digits to octets, many digits at once: a digit a lane.
 ghost use Rattle.std.specs.Prelude.{◌≡◌, ℕ, ◌+◌, ◌*◌, ◌<◌, ◌≤◌, ◌↔◌, ◌++◌, IsTrue, List, Ok, length, map, slice_index};
-ghost use Rattle.std.specs.List.{AllPass, range_with_len};
+ghost use Rattle.std.specs.List.{AllPass};
 ghost use Rattle.hex.specs.Hex.{decode_of, is_hex_digit};
-ghost use Rattle.link_text.specs.Lanes.{value_or_255, joined, octet_at, DigitsBetween};
+ghost use Rattle.link_text.specs.Lanes.{value_or_255, pairs_of, octet_at, DigitsBetween};
 
 use std::simd::prelude::*;
 
@@ -32,7 +32,7 @@ fn are_digits(values: u8x32) -> bool
 // The octets of pairs of values, the first of a pair for the higher half.
 #[inline(always)]
 fn pairs(first: u8x32, second: u8x32) -> u8x32
-    ensures { result ≡ map (λ k. joined (slice_index (first ++ second) (2 * k)) (slice_index (first ++ second) (2 * k + 1))) (range_with_len 0 32) }
+    ensures { result ≡ pairs_of (first ++ second) }
 {
     let (high, low) = first.deinterleave(second);
     high * u8x32::splat(16) + low
