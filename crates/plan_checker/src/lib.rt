@@ -40,6 +40,7 @@ mod word_size;
 
 pub use checked::{Checked, Refused, check};
 pub use laws::{bits_have_one_carrier, verdicts_are_determined};
+pub use word_size::octets_of_word;
 
 #[cfg(test)]
 mod tests;

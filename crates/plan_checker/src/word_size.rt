@@ -2,8 +2,8 @@
 ghost use Rattle.std.specs.Prelude.{◌≡◌, ◌≤◌};
 ghost use Rattle.plan_checker.specs.WordSize.{word_size};
 
-// The octets of a word, and 0 for an unknown option.
-pub(crate) fn octets_of_word(option: u32) -> usize
+/// The octets of a word of the basic frame, and 0 for an unknown option.
+pub fn octets_of_word(option: u32) -> usize
     ensures value { result ≡ word_size option }
     ensures small { result ≤ 16 }
 {
