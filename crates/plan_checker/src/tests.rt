@@ -165,6 +165,62 @@ fn several_carriers(rt: HostRuntime) -> Result<(), Fail> {
     Ok(())
 }
 
+// A plan on option 1 of two carriers of 16 bits, each in a flow of its own.
+fn plan_of_two_flows(alloc: Global, second: Carrier, flow: Flow) -> Result<Plan, NoMemory> {
+    let carriers = [sampled(1, 1, 8, 0, 16), second];
+    let mut plan = plan_with(alloc, 1, 2, &carriers, flow_of(alloc, 7, true, &[0])?)?;
+    plan.mode = Mode::Aware;
+    plan.flows.push(flow)?;
+    Ok(plan)
+}
+
+#[test]
+fn a_rule_is_named_with_the_carrier_that_fails_it(rt: HostRuntime) -> Result<(), Fail> {
+    let rows = [
+        (sampled(1, 1, 8, 16, 16), (0, 0)),
+        (sampled(0, 1, 8, 16, 16), (4, 1)),
+        (sampled(1, 1, 21, 16, 16), (5, 1)),
+        (sampled(1, 1, 8, 16, 15), (6, 1)),
+        (sampled(1, 1, 8, 105, 16), (7, 1)),
+        (sampled(1, 1, 8, 15, 16), (8, 1)),
+    ];
+    for (carrier, expected) in rows {
+        let flow = flow_of(rt.alloc(), 8, false, &[1])?;
+        assert_eq!(rt;
+            outcome(plan_of_two_flows(rt.alloc(), carrier, flow)?),
+            expected
+        );
+    }
+    Ok(())
+}
+
+// The numbers of the second flow: frames, lmin, lmax, cap and p.
+#[test]
+fn a_rule_is_named_with_the_flow_that_fails_it(rt: HostRuntime) -> Result<(), Fail> {
+    let rows = [
+        ([1, 0, 2, 3, 1], (0, 0)),
+        ([65, 0, 2, 3, 1], (10, 1)),
+        ([1, 3, 2, 3, 1], (11, 1)),
+        ([2, 0, 2, 3, 1], (12, 1)),
+        ([1, 0, 2, 3, 0], (13, 1)),
+        ([1, 0, 2, 2, 1], (14, 1)),
+    ];
+    for ([frames, lmin, lmax, cap, p], expected) in rows {
+        let mut flow = flow_of(rt.alloc(), 8, false, &[1])?;
+        flow.frames = frames;
+        flow.lmin = lmin;
+        flow.lmax = lmax;
+        flow.cap = cap;
+        flow.p = p;
+        let second = sampled(1, 1, 8, 16, 16);
+        assert_eq!(rt;
+            outcome(plan_of_two_flows(rt.alloc(), second, flow)?),
+            expected
+        );
+    }
+    Ok(())
+}
+
 #[test]
 fn as_many_carriers_as_a_plan_may_have(rt: HostRuntime) -> Result<(), Fail> {
     for (count, expected) in [(0, (2, 0)), (1, (0, 0)), (64, (0, 0)), (65, (2, 0))] {
