@@ -1,10 +1,13 @@
 //! `roe_link`: whether a plan of a CPRI link in Radio-over-Ethernet packets holds.
 #![tactic(auto)]
 
+mod carriers_in_words;
 mod check;
+mod flows_in_words;
 mod form;
 mod people;
 mod plan_file;
+mod rules_in_words;
 mod run;
 mod status;
 mod verdict;

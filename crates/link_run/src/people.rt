@@ -1,13 +1,17 @@
 // What helps a person, on standard error.
 use crate::form::{Form, form_of};
+use crate::plan_file::read_plan_file;
+use crate::rules_in_words::{in_words, place_in_words};
 use crate::status::Status;
+use carrier_plan::read;
 use link_base::FileShelf;
-use std::io;
+use plan_checker::{Refused, check};
+use std::{fs, io};
 
 /// Says on standard error what standard output does not: the forms where the words are none of them, the file that
 /// could not be read and why, and the rule that fails, in words.
 pub fn explain(
-    rt: &impl Eprint,
+    rt: &HostRuntime,
     words: &[String],
     status: &Status,
     shelf: &FileShelf<'_>,
@@ -20,7 +24,7 @@ pub fn explain(
                 "  roe_link check PLAN    says whether a plan meets the rules, and how long samples take"
             )
         }
-        Status::No { rule, item } => explain_rule(rt, *rule, *item),
+        Status::No { rule, item } => explain_rule(rt, file_of(words), *rule, *item),
         Status::ReadFault => explain_file(rt, file_of(words), shelf),
         Status::WriteFault => eprintln!(rt; "roe_link: standard output could not be written"),
         Status::NoMemory => eprintln!(rt; "roe_link: out of memory"),
@@ -42,33 +46,26 @@ fn explain_file(rt: &impl Eprint, name: &str, shelf: &FileShelf<'_>) -> io::Resu
     }
 }
 
-// The rule in words, and where it fails.
-fn explain_rule(rt: &impl Eprint, rule: u32, item: u32) -> io::Result<()> {
-    let sentence = sentence_of(rule);
-    match rule {
-        4..=8 => eprintln!(rt; "rule {rule}, carrier {item}: {sentence}"),
-        10..=14 => eprintln!(rt; "rule {rule}, flow {item}: {sentence}"),
-        _ => eprintln!(rt; "rule {rule}: {sentence}"),
+// The rule that fails, in words: with its figures where the plan is read once more, since a status has none.
+fn explain_rule(rt: &HostRuntime, name: &str, rule: u32, item: u32) -> io::Result<()> {
+    match refusal_of(rt, name) {
+        Some(refused) if refused.rule == rule && refused.item == item => {
+            let sentence = in_words(rt.alloc(), &refused)?;
+            eprintln!(rt; "{sentence}")
+        }
+        _ => {
+            let place = place_in_words(rt.alloc(), rule, item)?;
+            eprintln!(rt; "{place}: docs/PLAN.md says what it asks for")
+        }
     }
 }
 
-fn sentence_of(rule: u32) -> &'static str {
-    match rule {
-        1 => "the line option is none of 1 to 7",
-        2 => "there are not 1 to 64 carriers and 1 to 8 flows",
-        3 => "in this mode one flow has to carry all carriers in order, with control",
-        4 => "its rate is out of range, or S and K are not in lowest terms",
-        5 => "its samples do not have 4 to 20 bits",
-        6 => "its container does not have the size that its method prescribes",
-        7 => "its container ends beyond the IQ bits of the frame",
-        8 => "its container shares bits with the container of an earlier carrier",
-        9 =>
-            "flow ids are not distinct, or the flows do not share out the carriers, or not one flow has control",
-        10 => "its packets have not 1 to 64 frames, or not 1 to 1,492 octets of payload",
-        11 => "its window is not in order, or ends after 100,000 ticks",
-        12 => "playout comes before the window of its last frame closes, or after 200,000 ticks",
-        13 => "its sequence numbers are too few for the packets whose windows are open at once",
-        14 => "its buffer is too small for the packets that it may have to hold",
-        _ => "it does not hold",
+// The first failure of the plan in a file. A pipe is not read, since what it had is gone.
+fn refusal_of(rt: &HostRuntime, name: &str) -> Option<Refused> {
+    if !fs::metadata(rt, name).ok()?.is_file() {
+        return None;
     }
+    let octets = read_plan_file(rt.alloc(), &mut FileShelf::new(rt), name).ok()?;
+    let plan = read(rt.alloc(), octets.as_slice()).ok()?;
+    check(plan).err()
 }

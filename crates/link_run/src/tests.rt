@@ -7,6 +7,8 @@ use link_base::{MemShelf, MemSink, NoMemory};
 use std::alloc::Global;
 use std::test::Fail;
 
+mod words;
+
 /// The keys of a plan before its carriers.
 const TOP: &str = "version = 1\noption = 1\nmode = \"bytes\"\nplayout = 2\n";
 
