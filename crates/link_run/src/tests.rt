@@ -7,6 +7,7 @@ use link_base::{MemShelf, MemSink, NoMemory};
 use std::alloc::Global;
 use std::test::Fail;
 
+mod check;
 mod words;
 
 /// The keys of a plan before its carriers.
