@@ -43,25 +43,31 @@ fn sample_width(alloc: Global, carrier: &Carrier) -> Result<String, AllocError> 
     format!(in alloc; "its m is {m}, and has to be 4 to 20")
 }
 
-// Rules 4 and 5 keep the product small, which is why it may saturate here.
 fn container_size(alloc: Global, carrier: &Carrier) -> Result<String, AllocError> {
     let Carrier { s, k, m, size, .. } = *carrier;
-    let samples = u64::from(s);
-    let frames = u64::from(k.max(1));
-    let bits = u64::from(m).saturating_mul(2);
+    let prescribed = prescribed_size(carrier);
     match carrier.method {
         Method::Sample => {
-            let prescribed = (samples * u64::from(m)).div_ceil(frames).saturating_mul(2);
             format!(in alloc;
                 "its size is {size}, and has to be 2 * ceil({m} * {s} / {k}) = {prescribed} by method 1"
             )
         }
         Method::Compatible => {
-            let prescribed = samples.div_ceil(frames).saturating_mul(bits);
             format!(in alloc;
                 "its size is {size}, and has to be 2 * {m} * ceil({s} / {k}) = {prescribed} by method 3"
             )
         }
+    }
+}
+
+// The bits that the mapping method prescribes. Rules 4 and 5 keep them few, so that the product does not saturate.
+fn prescribed_size(carrier: &Carrier) -> u64 {
+    let s = u64::from(carrier.s);
+    let k = u64::from(carrier.k.max(1));
+    let m = u64::from(carrier.m);
+    match carrier.method {
+        Method::Sample => (m * s).div_ceil(k).saturating_mul(2),
+        Method::Compatible => (2 * m).saturating_mul(s.div_ceil(k)),
     }
 }
 

@@ -139,7 +139,7 @@ fn payload(alloc: Global, plan: &Plan, flow: &Flow) -> Result<String, AllocError
     )
 }
 
-// Rules 7 and 9 keep the sum small, which is why it may saturate here.
+// The octets of one basic frame in a flow. Rules 7 and 9 keep the sum small, so that it does not saturate.
 fn octets_of_frame(plan: &Plan, flow: &Flow) -> u64 {
     let word = octets_of_word(plan.option) as u64;
     match plan.mode {

@@ -9,7 +9,7 @@ use plan_checker::{Refused, check};
 use std::{fs, io};
 
 /// Says on standard error what standard output does not: the forms where the words are none of them, the file that
-/// could not be read and why, and the rule that fails, in words.
+/// could not be read and why, and the rule that fails, in words with its figures.
 pub fn explain(
     rt: &HostRuntime,
     words: &[String],
@@ -46,7 +46,7 @@ fn explain_file(rt: &impl Eprint, name: &str, shelf: &FileShelf<'_>) -> io::Resu
     }
 }
 
-// The rule that fails, in words: with its figures where the plan is read once more, since a status has none.
+// The rule that fails, in words. A status has no figures, so the plan is read once more for them.
 fn explain_rule(rt: &HostRuntime, name: &str, rule: u32, item: u32) -> io::Result<()> {
     match refusal_of(rt, name) {
         Some(refused) if refused.rule == rule && refused.item == item => {
