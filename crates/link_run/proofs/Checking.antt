@@ -12,7 +12,7 @@ use Rattle.carrier_plan.specs.declared.plan.Plan.{Plan}
 use Rattle.carrier_plan.specs.declared.fault.PlanText as fault
 use Rattle.carrier_plan.specs.declared.fault.PlanText.TheVariants.{Long}
 use Rattle.link_run.specs.declared.status.Status.{Status}
-use Rattle.link_run.specs.declared.status.Status.TheVariants.{Done, No, Usage, PlanText, ReadFault, WriteFault, NoMemory}
+use Rattle.link_run.specs.declared.status.Status.TheVariants.{Done, No, Usage, PlanText, FeedBad, ReadFault, WriteFault, NoMemory}
 use Rattle.link_run.specs.Form.{check}
 use Rattle.link_run.specs.Answer.{IsVerdict, IsPlanAnswer, IsCheckAnswer}
 use Rattle.link_run.specs.PlanFile.{plan_limit, IsPlanFile, FailsAtFile}
@@ -104,6 +104,7 @@ answering_verdict p Done text h = refl
 answering_verdict p (No rule item) text h = refl
 answering_verdict p Usage text h = absurd h
 answering_verdict p (PlanText fault) text h = absurd h
+answering_verdict p (FeedBad line reason) text h = absurd h
 answering_verdict p ReadFault text h = absurd h
 answering_verdict p WriteFault text h = absurd h
 answering_verdict p NoMemory text h = absurd h
@@ -117,6 +118,7 @@ not_usage_verdict p Done text h = λ e. cc
 not_usage_verdict p (No rule item) text h = λ e. cc
 not_usage_verdict p Usage text h = absurd h
 not_usage_verdict p (PlanText fault) text h = absurd h
+not_usage_verdict p (FeedBad line reason) text h = absurd h
 not_usage_verdict p ReadFault text h = absurd h
 not_usage_verdict p WriteFault text h = absurd h
 not_usage_verdict p NoMemory text h = absurd h

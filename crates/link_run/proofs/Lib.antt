@@ -1,5 +1,6 @@
 pub mod Filling
 pub mod Loading
 pub mod Lines
+pub mod Gathering
 pub mod Checking
 pub mod Running

@@ -8,7 +8,7 @@ use Rattle.carrier_plan.specs.declared.plan.Plan.{Plan}
 use Rattle.carrier_plan.specs.declared.fault.PlanText as fault
 use Rattle.plan_checker.specs.Rules.{IsGood, IsFirstFailure}
 use Rattle.link_run.specs.declared.status.Status.{Status}
-use Rattle.link_run.specs.declared.status.Status.TheVariants.{Done, No, Usage, PlanText, ReadFault, WriteFault, NoMemory}
+use Rattle.link_run.specs.declared.status.Status.TheVariants.{Done, No, Usage, PlanText, FeedBad, ReadFault, WriteFault, NoMemory}
 use Rattle.link_run.specs.Form.{Form, check}
 use Rattle.link_run.specs.Printed.{yes_text, no_text}
 use Rattle.link_run.specs.Answer.{IsVerdict, IsPlanAnswer, IsCheckAnswer}
@@ -36,6 +36,7 @@ completes form shelf shelf' sink sink' Done p told reads writes = inr (p.answers
 completes form shelf shelf' sink sink' (No rule item) p told reads writes = inr (p.answers refl told)
 completes form shelf shelf' sink sink' Usage p told reads writes = inr (p.answers refl told)
 completes form shelf shelf' sink sink' (PlanText fault) p told reads writes = inr (p.answers refl told)
+completes form shelf shelf' sink sink' (FeedBad line reason) p told reads writes = inr (p.answers refl told)
 completes form shelf shelf' sink sink' ReadFault p told reads writes = absurd (reads (p.reads.rose refl))
 completes form shelf shelf' sink sink' WriteFault p told reads writes = absurd (writes (p.writes.rose refl))
 completes form shelf shelf' sink sink' NoMemory p told reads writes = inl refl
@@ -72,6 +73,7 @@ only_done p Done text good h = refl
 only_done p (No rule item) text good h = absurd (h.0.fails.fails (good h.0.rule item h.0.fails.in_range))
 only_done p Usage text good h = absurd h
 only_done p (PlanText fault) text good h = absurd h
+only_done p (FeedBad line reason) text good h = absurd h
 only_done p ReadFault text good h = absurd h
 only_done p WriteFault text good h = absurd h
 only_done p NoMemory text good h = absurd h

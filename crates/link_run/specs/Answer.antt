@@ -7,7 +7,7 @@ use Rattle.carrier_plan.specs.declared.fault.PlanText as fault
 use Rattle.carrier_plan.specs.PlanOf.{plan_of}
 use Rattle.plan_checker.specs.Rules.{IsGood, IsFirstFailure}
 use Rattle.link_run.specs.declared.status.Status.{Status}
-use Rattle.link_run.specs.declared.status.Status.TheVariants.{Done, No, Usage, PlanText, ReadFault, WriteFault, NoMemory}
+use Rattle.link_run.specs.declared.status.Status.TheVariants.{Done, No, Usage, PlanText, FeedBad, ReadFault, WriteFault, NoMemory}
 use Rattle.link_run.specs.Form.{Form, check}
 use Rattle.link_run.specs.Printed.{yes_text, no_text, fault_text}
 
@@ -17,6 +17,7 @@ IsVerdict p Done text = IsGood p × (text ≡ yes_text p)
 IsVerdict p (No rule item) text = IsFirstFailure p rule item × (text ≡ no_text rule item)
 IsVerdict p Usage text = ⊥
 IsVerdict p (PlanText fault) text = ⊥
+IsVerdict p (FeedBad line reason) text = ⊥
 IsVerdict p ReadFault text = ⊥
 IsVerdict p WriteFault text = ⊥
 IsVerdict p NoMemory text = ⊥

@@ -1,8 +1,12 @@
 pub mod Answer
 pub mod Code
 pub mod CodeForm
+pub mod Feed
+pub mod FeedCalls
 pub mod Form
+pub mod Gathered
 pub mod Given
 pub mod PlanFile
 pub mod Printed
 pub mod Promises
+pub mod Reasons

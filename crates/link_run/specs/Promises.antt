@@ -9,7 +9,7 @@ use Rattle.carrier_plan.specs.declared.plan.Plan.{Plan}
 use Rattle.carrier_plan.specs.PlanOf.{plan_of}
 use Rattle.plan_checker.specs.Rules.{IsGood, IsFirstFailure}
 use Rattle.link_run.specs.declared.status.Status.{Status}
-use Rattle.link_run.specs.declared.status.Status.TheVariants.{Done, No, Usage, PlanText, ReadFault, WriteFault, NoMemory}
+use Rattle.link_run.specs.declared.status.Status.TheVariants.{Done, No, Usage, PlanText, FeedBad, ReadFault, WriteFault, NoMemory}
 use Rattle.link_run.specs.Form.{Form, plan_names, feed_names, reached_names}
 use Rattle.link_run.specs.Answer.{IsAnswer, IsSettled, IsGoodFront}
 use Rattle.link_run.specs.Printed.{yes_text, no_text}
@@ -20,6 +20,7 @@ is_answer Done = true
 is_answer (No rule item) = true
 is_answer Usage = true
 is_answer (PlanText fault) = true
+is_answer (FeedBad line reason) = true
 is_answer ReadFault = false
 is_answer WriteFault = false
 is_answer NoMemory = false

@@ -3,16 +3,20 @@
 
 mod carriers_in_words;
 mod check;
+mod feed;
 mod flows_in_words;
 mod form;
 mod people;
 mod plan_file;
+mod reason;
 mod rules_in_words;
 mod run;
 mod status;
+mod text_buffer;
 mod verdict;
 
 use link_base::{FileShelf, StdSink};
+pub use reason::Reason;
 pub use run::run;
 pub use status::{Status, code};
 use std::env;

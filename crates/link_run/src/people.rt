@@ -1,6 +1,7 @@
 // What helps a person, on standard error.
 use crate::form::{Form, form_of};
 use crate::plan_file::read_plan_file;
+use crate::reason::Reason;
 use crate::rules_in_words::{in_words, place_in_words};
 use crate::status::Status;
 use carrier_plan::read;
@@ -25,6 +26,7 @@ pub fn explain(
             )
         }
         Status::No { rule, item } => explain_rule(rt, file_of(words), *rule, *item),
+        Status::FeedBad { line, reason } => explain_line(rt, *line, *reason),
         Status::ReadFault => explain_file(rt, file_of(words), shelf),
         Status::WriteFault => eprintln!(rt; "roe_link: standard output could not be written"),
         Status::NoMemory => eprintln!(rt; "roe_link: out of memory"),
@@ -44,6 +46,24 @@ fn explain_file(rt: &impl Eprint, name: &str, shelf: &FileShelf<'_>) -> io::Resu
         Some(error) => eprintln!(rt; "roe_link: {name}: {error}"),
         None => eprintln!(rt; "roe_link: {name}: could not be read"),
     }
+}
+
+// Which line is the first bad one, and what was expected there.
+fn explain_line(rt: &impl Eprint, line: u64, reason: Reason) -> io::Result<()> {
+    let sentence = match reason {
+        Reason::Header => "this is no header of the file",
+        Reason::Number => "a number is missing, or is out of its range",
+        Reason::Hex => "hexadecimal digits were expected",
+        Reason::Order => "the tick is below the one before it",
+        Reason::Range => "a value does not fit the bits of its carrier",
+        Reason::Count => "the file has too few lines or too many",
+        Reason::Many => "the file has too many lines, or too many announcements are on their way",
+        Reason::Word => "an event was expected, such as `tell 1`, or `end`",
+        Reason::Long => "a line has at most 4,096 octets",
+        Reason::Unended => "the file ends before the line feed behind `end`",
+        Reason::After => "nothing may follow `end`",
+    };
+    eprintln!(rt; "roe_link: line {line}: {sentence}")
 }
 
 // The rule that fails, in words. A status has no figures, so the plan is read once more for them.

@@ -2,6 +2,7 @@
 ghost use Rattle.std.specs.Prelude.{◌≡◌};
 ghost use Rattle.link_run.specs.Code.{code_of};
 
+use crate::reason::Reason;
 use carrier_plan::PlanText;
 
 /// How a call of the program ended.
@@ -15,6 +16,8 @@ pub enum Status {
     Usage,
     /// The file is no plan.
     PlanText(PlanText),
+    /// A feed is refused. The line, numbered from 1, is its first bad one.
+    FeedBad { line: u64, reason: Reason },
     /// A file could not be opened or read.
     ReadFault,
     /// The text could not be written.
@@ -32,6 +35,7 @@ pub fn code(status: &Status) -> u8
         Status::No { .. } => 1,
         Status::Usage => 2,
         Status::PlanText(_) => 3,
+        Status::FeedBad { .. } => 4,
         Status::ReadFault => 5,
         Status::WriteFault => 6,
         Status::NoMemory => 7,

@@ -1,0 +1,53 @@
+-- What the calls that read a feed do to the text in hand, the sink and the shelf. This is the project's own.
+use Rattle.std.specs.Prelude.{◌≡◌, ◌⊎◌, ◌≢◌, ◌≤◌, ℕ, Bool, true, false, List, [], ◌++◌, length}
+use Rattle.link_base.specs.Faults.{Rose}
+use Rattle.link_base.specs.Shelf.{Shown}
+use Rattle.link_base.specs.Sink.{Taken}
+use Rattle.link_text.specs.Lines.{lines_of, rest_of, longest}
+use Rattle.link_run.specs.declared.feed.Reading.{Reading}
+use Rattle.link_run.specs.declared.feed.Reading.TheVariants.{More, Last, Bad}
+use Rattle.link_run.specs.declared.status.Status.{Status}
+use Rattle.link_run.specs.declared.status.Status.TheVariants.{ReadFault, WriteFault}
+use Rattle.link_run.specs.Gathered.{Gathers, BreaksOff}
+use Rattle.link_run.specs.Given.{IsGiven}
+use Rattle.link_run.specs.Feed.{Step, goes_on, ends, is_bad, LineForm, LeadTo, IsRead, IsLastOrNone}
+
+-- A line was read as what it is, and the text that it settles was gathered.
+abbrev pub IsReadAs : {S : Type 0} → Step S → Reading → S → S → List ℕ → Taken → List ℕ → Taken → Type 0
+IsReadAs step More old new hand sink hand' sink' = (settled : List ℕ) × (step ≡ goes_on new settled) × Gathers settled hand sink hand' sink'
+IsReadAs step Last old new hand sink hand' sink' = (step ≡ ends) × (new ≡ old) × (hand' ≡ hand) × (sink' ≡ sink)
+IsReadAs step (Bad reason) old new hand sink hand' sink' = (step ≡ is_bad reason) × (hand' ≡ hand) × (sink' ≡ sink)
+
+-- The line was good, and its text could not be written whole.
+abbrev pub BreaksOffAt : {S : Type 0} → Step S → List ℕ → Taken → Taken → Type 0
+BreaksOffAt {S} step hand sink sink' = (next : S) × (settled : List ℕ) × (step ≡ goes_on next settled) × BreaksOff settled hand sink sink'
+
+-- A read failed. These octets were taken: their whole lines are good, but for a last line at their end.
+pub record IsStopped {S : Type 0} (form : LineForm S) (start : S) (unread : List ℕ) (shelf shelf' : Shown) (answer : Status) (text : List ℕ) : Type 0 where
+  pub status : answer ≡ ReadFault
+  pub taken : List ℕ
+  pub good : List (List ℕ)
+  pub following : List (List ℕ)
+  pub tail : List (List ℕ)
+  pub last : S
+  pub all : unread ≡ taken ++ shelf'.left
+  pub of_all : lines_of unread ≡ good ++ following
+  pub of_taken : lines_of taken ≡ good ++ tail
+  pub leads : LeadTo form start good last text
+  pub at_end : IsLastOrNone form last tail
+  pub short : length (rest_of taken) ≤ longest
+  pub failed : shelf'.failed ≡ shelf.chosen
+
+-- The rest of a feed was read: the answer to it is given with its text behind that in hand, or a read failed.
+pub record Concludes {S : Type 0} (form : LineForm S) (start : S) (number : ℕ) (unread hand : List ℕ) (shelf shelf' : Shown) (sink sink' : Taken) (result : Status) : Type 0 where
+  pub answer : Status
+  pub text : List ℕ
+  pub given : IsGiven answer (hand ++ text) sink sink' result
+  pub due : IsRead form start number (lines_of unread) (rest_of unread) answer text ⊎ IsStopped form start unread shelf shelf' answer text
+  pub chosen : shelf'.chosen ≡ shelf.chosen
+
+-- The count of the shelf's failures never falls, rose after a read fault, and stays but for that and a write fault.
+pub record FeedCounts (result : Status) (before now : ℕ) : Type 0 where
+  pub never_falls : before ≤ now
+  pub rose : result ≡ ReadFault → Rose before now
+  pub stays : result ≢ ReadFault → result ≢ WriteFault → now ≡ before

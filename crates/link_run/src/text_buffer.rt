@@ -1,0 +1,83 @@
+// Text on its way to a sink.
+ghost use Rattle.std.specs.Prelude.{◌≡◌, ◌+◌, ◌^◌, ◌<◌, ◌≤◌, ◌++◌, [], length, decimal, OnOk};
+ghost use Rattle.link_base.specs.Faults.{HasCause};
+ghost use Rattle.link_base.specs.Sink.{Appends, AppendsFront};
+ghost use Rattle.link_run.specs.Gathered.{Gathers};
+
+use arrayvec::ArrayVec;
+use link_base::{Failed, Sink, put_all};
+use std::marker::Model;
+
+/// How many octets of text are held at most.
+const CAPACITY: usize = 4096;
+
+/// How many octets a line has at most for which `make_room` makes room.
+const LINE: usize = 128;
+
+/// Text that is gathered, so that it is written in few pieces. Clauses see it as the octets in hand.
+#[derive(Drop)]
+pub struct TextBuffer {
+    octets: ArrayVec<u8, CAPACITY>,
+}
+
+impl Model for TextBuffer {
+    ghost use Rattle.std.specs.Prelude.{ℕ, List};
+
+    ghost Value = { List ℕ };
+
+    ghost view = { λ b. b.octets.items };
+}
+
+impl TextBuffer {
+    /// No text.
+    pub fn new() -> TextBuffer
+        ensures { result ≡ [] }
+    {
+        TextBuffer {
+            octets: ArrayVec::new(),
+        }
+    }
+
+    /// Writes the text in hand. After an `Err` a front of it was written, and the buffer is of no more use.
+    pub fn flush<K: Sink>(&mut self, out: &mut K) -> Result<(), Failed>
+        ensures cause { HasCause (K.taken out.old).faults (K.taken out.new).faults result }
+        ensures empty { OnOk result (self.new ≡ []) }
+        ensures whole { OnOk result (Appends self.old (K.taken out.old) (K.taken out.new)) }
+        ensures front { AppendsFront self.old (K.taken out.old) (K.taken out.new) }
+    {
+        let written = put_all(out, self.octets.as_slice());
+        self.octets.clear();
+        written
+    }
+
+    /// Makes room for a line of at most 128 octets: writes the text in hand where there is none.
+    pub fn make_room<K: Sink>(&mut self, out: &mut K) -> Result<(), Failed>
+        ensures cause { HasCause (K.taken out.old).faults (K.taken out.new).faults result }
+        ensures room { OnOk result (length self.new + 128 ≤ 4096) }
+        ensures gathers { OnOk result (Gathers [] self.old (K.taken out.old) self.new (K.taken out.new)) }
+        ensures front { AppendsFront self.old (K.taken out.old) (K.taken out.new) }
+    {
+        if self.octets.remaining_capacity() < LINE {
+            return self.flush(out);
+        }
+        Ok(())
+    }
+
+    /// Appends octets.
+    pub fn put(&mut self, octets: &[u8])
+        requires { length self.old + length octets.now ≤ 4096 }
+        ensures { self.new ≡ self.old ++ octets.now }
+    {
+        self.octets.try_extend_from_slice(octets).unwrap();
+    }
+
+    /// Appends a number as a canonical decimal.
+    pub fn put_number(&mut self, n: u64)
+        requires room { length self.old + 20 ≤ 4096 }
+        requires fits { n < 2 ^ 63 }
+        ensures text { self.new ≡ self.old ++ decimal n }
+        ensures short { length self.new ≤ length self.old + 20 }
+    {
+        link_text::put_number(&mut self.octets, n as i64);
+    }
+}
