@@ -2,5 +2,6 @@ pub mod Filling
 pub mod Loading
 pub mod Lines
 pub mod Gathering
+pub mod FeedLines
 pub mod Checking
 pub mod Running

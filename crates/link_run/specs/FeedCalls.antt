@@ -10,7 +10,7 @@ use Rattle.link_run.specs.declared.status.Status.{Status}
 use Rattle.link_run.specs.declared.status.Status.TheVariants.{ReadFault, WriteFault}
 use Rattle.link_run.specs.Gathered.{Gathers, BreaksOff}
 use Rattle.link_run.specs.Given.{IsGiven}
-use Rattle.link_run.specs.Feed.{Step, goes_on, ends, is_bad, LineForm, LeadTo, IsRead, IsLastOrNone}
+use Rattle.link_run.specs.Feed.{Step, goes_on, ends, is_bad, LineForm, LeadTo, behind_last, IsRead, IsLastOrNone}
 
 -- A line was read as what it is, and the text that it settles was gathered.
 abbrev pub IsReadAs : {S : Type 0} → Step S → Reading → S → S → List ℕ → Taken → List ℕ → Taken → Type 0
@@ -44,6 +44,29 @@ pub record Concludes {S : Type 0} (form : LineForm S) (start : S) (number : ℕ)
   pub text : List ℕ
   pub given : IsGiven answer (hand ++ text) sink sink' result
   pub due : IsRead form start number (lines_of unread) (rest_of unread) answer text ⊎ IsStopped form start unread shelf shelf' answer text
+  pub chosen : shelf'.chosen ≡ shelf.chosen
+
+-- The answer by what follows the last line, where what follows it has this number.
+pub record IsBehind (number : ℕ) (unread closing : List ℕ) (answer : Status) (text : List ℕ) : Type 0 where
+  pub status : answer ≡ (behind_last number (lines_of unread) (rest_of unread) closing).status
+  pub whole : text ≡ (behind_last number (lines_of unread) (rest_of unread) closing).text
+
+-- A read failed behind the last line. These octets were taken, and none of them is a line feed.
+pub record IsStoppedBehind (unread : List ℕ) (shelf shelf' : Shown) (answer : Status) (text : List ℕ) : Type 0 where
+  pub status : answer ≡ ReadFault
+  pub nothing : text ≡ []
+  pub taken : List ℕ
+  pub all : unread ≡ taken ++ shelf'.left
+  pub no_line : lines_of taken ≡ []
+  pub short : length (rest_of taken) ≤ longest
+  pub failed : shelf'.failed ≡ shelf.chosen
+
+-- What follows the last line was read: the answer to it is given with its text behind that in hand, or a read failed.
+pub record Finishes (number : ℕ) (unread closing hand : List ℕ) (shelf shelf' : Shown) (sink sink' : Taken) (result : Status) : Type 0 where
+  pub answer : Status
+  pub text : List ℕ
+  pub given : IsGiven answer (hand ++ text) sink sink' result
+  pub due : IsBehind number unread closing answer text ⊎ IsStoppedBehind unread shelf shelf' answer text
   pub chosen : shelf'.chosen ≡ shelf.chosen
 
 -- The count of the shelf's failures never falls, rose after a read fault, and stays but for that and a write fault.

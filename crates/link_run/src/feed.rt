@@ -6,13 +6,14 @@ ghost use Rattle.link_run.specs.Reasons.{bad_line};
 ghost use Rattle.link_run.specs.Gathered.{Gathers, BreaksOff};
 ghost use Rattle.link_run.specs.Given.{IsGiven};
 ghost use Rattle.link_run.specs.Feed.{LineForm};
-ghost use Rattle.link_run.specs.FeedCalls.{IsReadAs, BreaksOffAt, Concludes, FeedCounts};
+ghost use Rattle.link_run.specs.FeedCalls.{IsReadAs, BreaksOffAt, Concludes, Finishes, FeedCounts};
 ghost use Rattle.link_run.specs.Promises.{Counts};
 
 use crate::reason::Reason;
 use crate::status::Status;
 use crate::text_buffer::TextBuffer;
-use link_base::{Failed, Sink};
+use link_base::{Failed, Shelf, Sink};
+use link_text::{Line, LineReader};
 
 /// What a line of a feed is.
 #[derive(Clone, Copy, Debug, PartialEq, Eq)]
@@ -105,5 +106,61 @@ fn conclude<F: Feed, K: Sink>(feed: &mut F, text: &mut TextBuffer, out: &mut K) 
     match feed.close(text, out) {
         Ok(()) => give(Status::Done, text, out),
         Err(Failed) => Status::WriteFault,
+    }
+}
+
+// Reads what follows the last line, which has this number: there may be nothing.
+fn finish<F: Feed, H: Shelf, K: Sink>(
+    feed: &mut F,
+    number: u64,
+    reader: &mut LineReader,
+    text: &mut TextBuffer,
+    shelf: &mut H,
+    out: &mut K,
+) -> Status
+    requires fresh { reader.old.ended ≡ None }
+    requires limit { number < 2 ^ 32 }
+    ensures files { SameFiles (H.shown shelf.old) (H.shown shelf.new) }
+    ensures reads { FeedCounts result (H.shown shelf.old).faults (H.shown shelf.new).faults }
+    ensures writes { Counts (result ≡ Status.WriteFault) (K.taken out.old).faults (K.taken out.new).faults }
+    ensures finishes { IsTrue (H.shown shelf.old).tells → Finishes (number + 1) (reader.old.rest ++ (H.shown shelf.old).left) (F.form.closing feed.old) text.old (H.shown shelf.old) (H.shown shelf.new) (K.taken out.old) (K.taken out.new) result }
+{
+    match reader.next(shelf) {
+        Line::End => conclude(feed, text, out),
+        Line::Failed => give(Status::ReadFault, text, out),
+        _ => refuse(number + 1, Reason::After, text, out),
+    }
+}
+
+/// Reads the lines behind the header to the end of the feed or to its first bad line. The header was line 1.
+pub fn read_lines<F: Feed, H: Shelf, K: Sink>(
+    feed: &mut F,
+    reader: &mut LineReader,
+    text: &mut TextBuffer,
+    shelf: &mut H,
+    out: &mut K,
+) -> Status
+    requires fresh { reader.old.ended ≡ None }
+    requires limit { F.lines_left feed.old < 2 ^ 31 }
+    ensures files { SameFiles (H.shown shelf.old) (H.shown shelf.new) }
+    ensures reads { FeedCounts result (H.shown shelf.old).faults (H.shown shelf.new).faults }
+    ensures writes { Counts (result ≡ Status.WriteFault) (K.taken out.old).faults (K.taken out.new).faults }
+    ensures concludes { IsTrue (H.shown shelf.old).tells → Concludes F.form feed.old 2 (reader.old.rest ++ (H.shown shelf.old).left) text.old (H.shown shelf.old) (H.shown shelf.new) (K.taken out.old) (K.taken out.new) result }
+{
+    let mut number = 1;
+    loop {
+        number += 1;
+        let line = match reader.next(shelf) {
+            Line::Text(line) => line,
+            Line::TooLong => return refuse(number, Reason::Long, text, out),
+            Line::End | Line::Unended => return refuse(number, Reason::Unended, text, out),
+            Line::Failed => return give(Status::ReadFault, text, out),
+        };
+        match feed.read(line, text, out) {
+            Ok(Reading::More) => {}
+            Ok(Reading::Last) => return finish(feed, number, reader, text, shelf, out),
+            Ok(Reading::Bad(reason)) => return refuse(number, reason, text, out),
+            Err(Failed) => return Status::WriteFault,
+        }
     }
 }
