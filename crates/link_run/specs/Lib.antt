@@ -1,8 +1,10 @@
 pub mod Answer
 pub mod Code
 pub mod CodeForm
+pub mod Events
 pub mod Feed
 pub mod FeedCalls
+pub mod Fields
 pub mod Form
 pub mod Gathered
 pub mod Given

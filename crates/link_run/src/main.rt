@@ -3,7 +3,9 @@
 
 mod carriers_in_words;
 mod check;
+mod events;
 mod feed;
+mod fields;
 mod flows_in_words;
 mod form;
 mod people;
