@@ -11,6 +11,7 @@ use Rattle.carrier_plan.specs.PlanOf.{plan_of}
 use Rattle.carrier_plan.specs.declared.plan.Plan.{Plan}
 use Rattle.carrier_plan.specs.declared.fault.PlanText as fault
 use Rattle.carrier_plan.specs.declared.fault.PlanText.TheVariants.{Long}
+use Rattle.link_run.specs.declared.reason.Reason.{Reason}
 use Rattle.link_run.specs.declared.status.Status.{Status}
 use Rattle.link_run.specs.declared.status.Status.TheVariants.{Done, No, Usage, PlanText, FeedBad, ReadFault, WriteFault, NoMemory}
 use Rattle.link_run.specs.Form.{check}
@@ -18,23 +19,23 @@ use Rattle.link_run.specs.Answer.{IsVerdict, IsPlanAnswer, IsCheckAnswer}
 use Rattle.link_run.specs.PlanFile.{plan_limit, IsPlanFile, FailsAtFile}
 use Rattle.link_run.specs.Given.{IsWhole, IsCut, IsVerdictGiven}
 use Rattle.link_run.specs.Promises.{Promises, is_answer, IsReached}
-use Rattle.link_run.proofs.Loading.{counted_ok, counted_err}
+use Rattle.link_run.proofs.Loading.{counted_ok, counted_err, reads_stay, reads_failed}
 
 pub keeps : (sink : Taken) → Appends [] sink sink
 keeps sink = record { tells = refl; written = λ told. sym (append-nil sink.written) }
 
 -- the one name of a list of one
-the_one : (one name : List ℕ) → Contains (one ∷ []) name → one ≡ name
+pub the_one : (one name : List ℕ) → Contains (one ∷ []) name → one ≡ name
 the_one one name h = only one name h.0 h.1 h.2
   where
     only : (one name : List ℕ) (k : ℕ) → k < 1 → get_or (one ∷ []) k name ≡ name → one ≡ name
     only one name zero within e = e
     only one name (suc k) within e = absurd (omega arith)
 
-in_one : (name : List ℕ) → Contains (name ∷ []) name
+pub in_one : (name : List ℕ) → Contains (name ∷ []) name
 in_one name = (0, omega arith, refl)
 
-not_in_none : (name : List ℕ) → Contains [] name → ⊥
+pub not_in_none : (name : List ℕ) → Contains [] name → ⊥
 not_in_none name h = omega (arith, h.1)
 
 -- what is read of a plan's file is the same plan, or too long as the whole is
@@ -48,7 +49,7 @@ plan_of_front whole = elim (cases_lt 65536 (length whole)) [
   | inr short ↦ ap plan_of (take_all plan_limit whole (omega arith))
 ]
 
-reached_name : (name : List ℕ) (held : Files) (failed : Option (List ℕ)) → (failed ≡ Some name) ⊎ ((failed ≡ None) × (get held name ≡ None)) → IsReached (name ∷ []) held failed
+pub reached_name : (name : List ℕ) (held : Files) (failed : Option (List ℕ)) → (failed ≡ Some name) ⊎ ((failed ≡ None) × (get held name ≡ None)) → IsReached (name ∷ []) held failed
 reached_name name held failed (inl here) = subst (IsReached (name ∷ []) held) (sym here) (in_one name)
 reached_name name held failed (inr none) = subst (IsReached (name ∷ []) held) (sym none.0) (name, ([], refl), none.1)
 
@@ -59,7 +60,7 @@ after_fault name old new sink files never_falls rose fails = record {
   usage = (λ no. absurd (cc), λ no. absurd (cc));
   untouched = λ no. absurd (cc);
   files = files;
-  reads = counted_err _ old.faults new.faults refl never_falls rose;
+  reads = reads_failed (Some (check name)) old.faults new.faults never_falls rose;
   writes = counted_ok _ sink.faults sink.faults (λ h. cc) refl;
   answers = λ no told. absurd (cc);
   front = λ no. absurd (cc);
@@ -77,6 +78,7 @@ after_fault name old new sink files never_falls rose fails = record {
     good = λ other taken feed. absurd (not_in_none other feed.1);
     nothing = λ no. refl;
   };
+  refused = λ line reason no. absurd (cc);
   memory = λ no. absurd (cc);
 }
 
@@ -86,12 +88,13 @@ after_memory name old new sink files same = record {
   usage = (λ no. absurd (cc), λ no. absurd (cc));
   untouched = λ no. absurd (cc);
   files = files;
-  reads = counted_ok _ old.faults new.faults (λ h. cc) same;
+  reads = reads_stay (Some (check name)) NoMemory old.faults new.faults (λ h. cc) same;
   writes = counted_ok _ sink.faults sink.faults (λ h. cc) refl;
   answers = λ no told. absurd (cc);
   front = λ no. absurd (cc);
   reached = λ no. absurd (cc);
   settled = λ no. absurd (cc);
+  refused = λ line reason no. absurd (cc);
   memory = λ is. record {
     written = keeps sink;
     of_feed = λ told other taken feed. absurd (not_in_none other feed.1);
@@ -127,6 +130,20 @@ not_usage : (read : Result Plan fault.PlanText) (status : Status) (text : List �
 not_usage (Ok p) status text h = not_usage_verdict p status text h
 not_usage (Err e) status text h = λ usage. absurd (let is = h.0 in cc)
 
+not_bad_verdict : (p : Plan) (status : Status) (text : List ℕ) → IsVerdict p status text → (line : ℕ) (reason : Reason) → status ≢ FeedBad line reason
+not_bad_verdict p Done text h line reason = λ e. cc
+not_bad_verdict p (No rule item) text h line reason = λ e. cc
+not_bad_verdict p Usage text h line reason = absurd h
+not_bad_verdict p (PlanText fault) text h line reason = absurd h
+not_bad_verdict p (FeedBad line' reason') text h line reason = absurd h
+not_bad_verdict p ReadFault text h line reason = absurd h
+not_bad_verdict p WriteFault text h line reason = absurd h
+not_bad_verdict p NoMemory text h line reason = absurd h
+
+not_bad : (read : Result Plan fault.PlanText) (status : Status) (text : List ℕ) → IsPlanAnswer read status text → (line : ℕ) (reason : Reason) → status ≢ FeedBad line reason
+not_bad (Ok p) status text h line reason = not_bad_verdict p status text h line reason
+not_bad (Err e) status text h line reason = λ bad. absurd (let is = h.0 in cc)
+
 check_answer : (name octets : List ℕ) (held : Files) (status : Status) (text : List ℕ) → IsPlanFile name held octets → IsPlanAnswer (plan_of octets) status text → IsCheckAnswer (get held name) status text
 unfolding IsCheckAnswer
 check_answer name octets held status text file judged =
@@ -138,20 +155,21 @@ no_answer status failure answers fails same = let e = ap is_answer same in absur
 
 -- the whole text of the answer was written
 after_whole : (name : List ℕ) (old new : Shown) (before after : Taken) (answer result : Status) (text : List ℕ) → SameFiles old new → new.faults ≡ old.faults
-    → is_answer answer ≡ true → answer ≢ Usage → (IsTrue old.tells → IsCheckAnswer (get old.held name) answer text) → IsWhole answer text before after result
+    → is_answer answer ≡ true → answer ≢ Usage → ((line : ℕ) (reason : Reason) → answer ≢ FeedBad line reason) → (IsTrue old.tells → IsCheckAnswer (get old.held name) answer text) → IsWhole answer text before after result
     → Promises (Some (check name)) old new before after result
-after_whole name old new before after answer result text files same answers other judged whole =
+after_whole name old new before after answer result text files same answers other no_bad judged whole =
     let is_yes : is_answer result ≡ true = ap is_answer whole.status ∙ answers in
     record {
       usage = (λ no. absurd (other (sym whole.status ∙ no)), λ no. absurd (cc));
       untouched = λ no. absurd (cc);
       files = files;
-      reads = counted_ok _ old.faults new.faults (no_answer result ReadFault is_yes refl) same;
+      reads = reads_stay (Some (check name)) result old.faults new.faults (no_answer result ReadFault is_yes refl) same;
       writes = counted_ok _ before.faults after.faults (no_answer result WriteFault is_yes refl) whole.count;
       answers = λ ok told. record { text = text; written = whole.written; answer = subst (λ s. IsCheckAnswer (get old.held name) s text) (sym whole.status) (judged told) };
       front = λ no. absurd (no_answer result WriteFault is_yes refl no);
       reached = λ no. absurd (no_answer result ReadFault is_yes refl no);
       settled = λ no. absurd (no_answer result ReadFault is_yes refl no);
+      refused = λ line reason bad. absurd (no_bad line reason (sym whole.status ∙ bad));
       memory = λ no. absurd (no_answer result NoMemory is_yes refl no);
     }
 
@@ -165,12 +183,13 @@ after_cut name old new before after answer result text files same judged cut =
       usage = (λ no. absurd (cc), λ no. absurd (cc));
       untouched = λ no. absurd (cc);
       files = files;
-      reads = counted_ok _ old.faults new.faults (λ h. cc) same;
+      reads = reads_stay (Some (check name)) result old.faults new.faults (λ h. cc) same;
       writes = counted_err _ before.faults after.faults is cut.never_falls cut.rose;
       answers = λ ok told. absurd (let e = ap is_answer is in cc);
       front = λ no told. record { status = answer; text = text; front = cut.front; answer = judged told };
       reached = λ no. absurd (cc);
       settled = λ no. absurd (cc);
+      refused = λ line reason no. absurd (cc);
       memory = λ no. absurd (cc);
     }
 
@@ -181,7 +200,7 @@ after_verdict name octets old new before after result files same file (inl nothi
     subst (λ status. Promises (Some (check name)) old new before after status) (sym nothing.status)
     (subst (λ sink. Promises (Some (check name)) old new before sink NoMemory) (sym nothing.same) (after_memory name old new before files same))
 after_verdict name octets old new before after result files same file (inr (answer, text, judged, inl whole)) =
-    after_whole name old new before after answer result text files same (answering (plan_of octets) answer text judged) (not_usage (plan_of octets) answer text judged)
+    after_whole name old new before after answer result text files same (answering (plan_of octets) answer text judged) (not_usage (plan_of octets) answer text judged) (not_bad (plan_of octets) answer text judged)
     (λ told. check_answer name octets old.held answer text (file told) judged) whole
 after_verdict name octets old new before after result files same file (inr (answer, text, judged, inr cut)) =
     after_cut name old new before after answer result text files same (λ told. check_answer name octets old.held answer text (file told) judged) cut

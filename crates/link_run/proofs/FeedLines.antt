@@ -148,7 +148,7 @@ step_of_long : {S : Type 0} (form : LineForm S) (s : S) (line : List ℕ) → 40
 step_of_long form s line long = cond-true (nat_lt 4096 (length line)) _ _ (lt-ltb 4096 (length line) long)
 
 -- a line feed among the first octets
-feed_in_front : (unread text more : List ℕ) → unread ≡ text ++ 10 ∷ more → length text ≤ 4096 → HasNoFeed (take 4097 unread) → ⊥
+pub feed_in_front : (unread text more : List ℕ) → unread ≡ text ++ 10 ∷ more → length text ≤ 4096 → HasNoFeed (take 4097 unread) → ⊥
 feed_in_front unread text more is short none =
     let within : length text < length (take 4097 unread) = omega (arith, length-take 4097 unread, ap length is ∙ length-append text (10 ∷ more), short) in
     none (length text) 0 within

@@ -4,5 +4,7 @@ pub mod Lines
 pub mod Gathering
 pub mod FeedLines
 pub mod Headers
+pub mod FeedWhole
 pub mod Checking
+pub mod Feeding
 pub mod Running

@@ -1,12 +1,15 @@
 -- A file that is selected and then read.
-use Rattle.std.proofs.Common.{◌≡◌, ◌≤◌, ◌⊎◌, inl, inr, ◌++◌, [], ℕ, List, length, take, drop, arith, refl, sym, ap, subst, ◌∙◌, Option, Some, None, append-nil}
+use Rattle.std.proofs.Common.{◌≡◌, ◌≢◌, ◌≤◌, ◌⊎◌, inl, inr, ◌++◌, [], ℕ, List, length, take, drop, arith, refl, sym, ap, subst, ◌∙◌, Option, Some, None, append-nil}
 use Rattle.std.specs.Prelude.{is_some, if◌then◌else◌}
 use Rattle.std.specs.FinMap.{get}
 use Rattle.std.proofs.lemmas.Bool.{cases_lt}
 use Rattle.std.proofs.lemmas.List.{drop_all, take_at, take_all, take-append-drop, length-take-le}
 use Rattle.link_base.specs.Shelf.{Files, Shown, Opens, FailsToOpen}
 use Rattle.link_base.specs.Faults.{Rose}
-use Rattle.link_run.specs.Promises.{Counts}
+use Rattle.link_run.specs.Promises.{Counts, CountsReads}
+use Rattle.link_run.specs.declared.status.Status.{Status}
+use Rattle.link_run.specs.declared.status.Status.TheVariants.{ReadFault}
+use Rattle.link_run.specs.Form.{Form}
 use Rattle.link_run.specs.PlanFile.{plan_limit, IsPlanFile, Loads, FailsAtFile, Fills, FailsToFill}
 
 -- a name is that of a file, or of none
@@ -70,6 +73,20 @@ counted_err failed before now fails never_falls rose = record {
   never_falls = never_falls;
   rose = λ h. rose;
   stays = λ h. absurd (h fails);
+}
+
+pub reads_stay : (form : Option Form) (status : Status) (before now : ℕ) → status ≢ ReadFault → now ≡ before → CountsReads form status before now
+reads_stay form status before now other same = record {
+  never_falls = omega (arith, same);
+  rose = λ is. absurd (other is);
+  stays = λ not_read not_write. same;
+}
+
+pub reads_failed : (form : Option Form) (before now : ℕ) → before ≤ now → Rose before now → CountsReads form ReadFault before now
+reads_failed form before now never_falls rose = record {
+  never_falls = never_falls;
+  rose = λ is. rose;
+  stays = λ not_read not_write. absurd (not_read refl);
 }
 
 pub loaded : (name : List ℕ) (held : Files) (front octets : List ℕ) → octets ≡ front → IsPlanFile name held front → IsPlanFile name held octets

@@ -13,7 +13,7 @@ use Rattle.link_run.specs.Form.{Form, check}
 use Rattle.link_run.specs.Printed.{yes_text, no_text}
 use Rattle.link_run.specs.Answer.{IsVerdict, IsPlanAnswer, IsCheckAnswer}
 use Rattle.link_run.specs.Promises.{Promises, ChecksPlan, IsComplete, is_answer}
-use Rattle.link_run.proofs.Loading.{counted_ok}
+use Rattle.link_run.proofs.Loading.{counted_ok, reads_stay}
 use Rattle.link_run.proofs.Checking.{keeps}
 
 -- words of no form
@@ -22,12 +22,13 @@ of_no_form shelf sink = record {
   usage = (λ h. refl, λ h. refl);
   untouched = λ h. (refl, refl);
   files = record { tells = refl; held = λ told. refl };
-  reads = counted_ok _ shelf.faults shelf.faults (λ h. cc) refl;
+  reads = reads_stay None Usage shelf.faults shelf.faults (λ h. cc) refl;
   writes = counted_ok _ sink.faults sink.faults (λ h. cc) refl;
   answers = λ ok told. record { text = []; written = keeps sink; answer = (refl, refl) };
   front = λ no. absurd (cc);
   reached = λ no. absurd (cc);
   settled = λ no. absurd (cc);
+  refused = λ line reason no. absurd (cc);
   memory = λ no. absurd (cc);
 }
 

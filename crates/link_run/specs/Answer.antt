@@ -8,7 +8,9 @@ use Rattle.carrier_plan.specs.PlanOf.{plan_of}
 use Rattle.plan_checker.specs.Rules.{IsGood, IsFirstFailure}
 use Rattle.link_run.specs.declared.status.Status.{Status}
 use Rattle.link_run.specs.declared.status.Status.TheVariants.{Done, No, Usage, PlanText, FeedBad, ReadFault, WriteFault, NoMemory}
-use Rattle.link_run.specs.Form.{Form, check}
+use Rattle.link_run.specs.Form.{Form, check, startup}
+use Rattle.link_run.specs.Feed.{IsFeedRead, IsFeedSettled, IsFeedFront}
+use Rattle.link_run.specs.Events.{events_form}
 use Rattle.link_run.specs.Printed.{yes_text, no_text, fault_text}
 
 -- yes with the delays exactly of a plan that meets the rules, and else no with its first failure
@@ -32,16 +34,24 @@ unfoldable pub IsCheckAnswer : Option (List ℕ) → Status → List ℕ → Typ
 IsCheckAnswer (Some octets) status text = IsPlanAnswer (plan_of octets) status text
 IsCheckAnswer None status text = (status ≡ ReadFault) × (text ≡ [])
 
+-- A name of no file is a read fault, without a text.
+unfoldable pub IsStartupAnswer : Option (List ℕ) → Status → List ℕ → Type 0
+IsStartupAnswer (Some octets) status text = IsFeedRead events_form octets status text
+IsStartupAnswer None status text = (status ≡ ReadFault) × (text ≡ [])
+
 abbrev pub IsAnswer : Option Form → Files → Status → List ℕ → Type 0
 IsAnswer None held status text = (status ≡ Usage) × (text ≡ [])
 IsAnswer (Some (check plan)) held status text = IsCheckAnswer (get held plan) status text
+IsAnswer (Some (startup events)) held status text = IsStartupAnswer (get held events) status text
 
 -- the text that is settled once these octets of a feed are read
 abbrev pub IsSettled : Option Form → Files → List ℕ → List ℕ → Type 0
 IsSettled None held octets text = text ≡ []
 IsSettled (Some (check plan)) held octets text = text ≡ []
+IsSettled (Some (startup events)) held octets text = IsFeedSettled events_form octets text
 
 -- none of the whole lines of these octets of a feed is bad, and less than a line follows them
 abbrev pub IsGoodFront : Option Form → Files → List ℕ → Type 0
 IsGoodFront None held octets = Unit {0}
 IsGoodFront (Some (check plan)) held octets = Unit {0}
+IsGoodFront (Some (startup events)) held octets = IsFeedFront events_form octets

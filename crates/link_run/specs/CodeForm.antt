@@ -2,8 +2,9 @@
 use Rattle.std.specs.Prelude.{Option, Some, None}
 use Rattle.link_run.specs.declared.form.Form as code
 use Rattle.link_run.specs.declared.form.Form.TheVariants as of_code
-use Rattle.link_run.specs.Form.{Form, check}
+use Rattle.link_run.specs.Form.{Form, check, startup}
 
 abbrev pub form_shown : Option code.Form → Option Form
 form_shown None = None
 form_shown (Some (of_code.Check plan)) = Some (check plan.now)
+form_shown (Some (of_code.Startup events)) = Some (startup events.now)

@@ -7,10 +7,10 @@ use Rattle.link_text.specs.Lines.{lines_of, rest_of, longest}
 use Rattle.link_run.specs.declared.feed.Reading.{Reading}
 use Rattle.link_run.specs.declared.feed.Reading.TheVariants.{More, Last, Bad}
 use Rattle.link_run.specs.declared.status.Status.{Status}
-use Rattle.link_run.specs.declared.status.Status.TheVariants.{ReadFault, WriteFault}
+use Rattle.link_run.specs.declared.status.Status.TheVariants.{Done, No, Usage, PlanText, FeedBad, ReadFault, WriteFault, NoMemory}
 use Rattle.link_run.specs.Gathered.{Gathers, BreaksOff}
 use Rattle.link_run.specs.Given.{IsGiven}
-use Rattle.link_run.specs.Feed.{Step, goes_on, ends, is_bad, LineForm, LeadTo, behind_last, IsRead, IsLastOrNone}
+use Rattle.link_run.specs.Feed.{Step, goes_on, ends, is_bad, LineForm, LeadTo, behind_last, IsRead, IsLastOrNone, FeedForm, IsFeedRead, IsFeedSettled, IsFeedFront}
 
 -- A line was read as what it is, and the text that it settles was gathered.
 abbrev pub IsReadAs : {S : Type 0} → Step S → Reading → S → S → List ℕ → Taken → List ℕ → Taken → Type 0
@@ -68,6 +68,44 @@ pub record Finishes (number : ℕ) (unread closing hand : List ℕ) (shelf shelf
   pub given : IsGiven answer (hand ++ text) sink sink' result
   pub due : IsBehind number unread closing answer text ⊎ IsStoppedBehind unread shelf shelf' answer text
   pub chosen : shelf'.chosen ≡ shelf.chosen
+
+-- A read of a feed failed. These octets were taken, and the text that they settle is a front of an answer's.
+pub record FeedStopped {S : Type 0} (form : FeedForm S) (octets : List ℕ) (shelf shelf' : Shown) (answer : Status) (text : List ℕ) : Type 0 where
+  pub status : answer ≡ ReadFault
+  pub taken : List ℕ
+  pub all : octets ≡ taken ++ shelf'.left
+  pub settled : IsFeedSettled form taken text
+  pub front : IsFeedFront form taken
+  pub failed : shelf'.failed ≡ shelf.chosen
+  pub due : Status
+  pub more : List ℕ
+  pub answered : IsFeedRead form octets due (text ++ more)
+
+-- A feed was read, and the answer is given, or a read failed.
+pub record FeedGiven {S : Type 0} (form : FeedForm S) (octets : List ℕ) (shelf shelf' : Shown) (sink sink' : Taken) (result : Status) : Type 0 where
+  pub answer : Status
+  pub text : List ℕ
+  pub given : IsGiven answer text sink sink' result
+  pub due : IsFeedRead form octets answer text ⊎ FeedStopped form octets shelf shelf' answer text
+  pub chosen : shelf'.chosen ≡ shelf.chosen
+
+-- Memory was wanting before the line behind the header was read.
+pub record FeedWants (octets : List ℕ) (shelf shelf' : Shown) : Type 0 where
+  pub taken : List ℕ
+  pub all : octets ≡ taken ++ shelf'.left
+  pub few : length taken ≤ 8192
+  pub chosen : shelf'.chosen ≡ shelf.chosen
+
+-- a status with which the lines of a feed end
+abbrev pub is_feed_status : Status → Bool
+is_feed_status Done = true
+is_feed_status (No rule item) = false
+is_feed_status Usage = false
+is_feed_status (PlanText fault) = false
+is_feed_status (FeedBad line reason) = true
+is_feed_status ReadFault = true
+is_feed_status WriteFault = true
+is_feed_status NoMemory = false
 
 -- The count of the shelf's failures never falls, rose after a read fault, and stays but for that and a write fault.
 pub record FeedCounts (result : Status) (before now : ℕ) : Type 0 where

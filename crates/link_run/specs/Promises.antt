@@ -1,6 +1,6 @@
 -- What a call of the program promises of its text, its status and the outside. This is the project's own.
 -- A shelf or a sink that does not tell its content leaves the facts on content open, and the counts and causes as they are.
-use Rattle.std.specs.Prelude.{◌↔◌, ◌≡◌, ◌⊎◌, ◌+◌, ◌≤◌, ℕ, Bool, true, false, IsTrue, List, [], ◌∷◌, ◌++◌, length, Contains, Option, Some, None, Ok}
+use Rattle.std.specs.Prelude.{◌↔◌, ◌≡◌, ◌≢◌, ◌⊎◌, ◌+◌, ◌≤◌, ℕ, Bool, true, false, IsTrue, List, [], ◌∷◌, ◌++◌, length, Contains, Option, Some, None, Ok}
 use Rattle.std.specs.FinMap.{get}
 use Rattle.link_base.specs.Faults.{Rose}
 use Rattle.link_base.specs.Shelf.{Files, Shown, SameFiles}
@@ -8,10 +8,12 @@ use Rattle.link_base.specs.Sink.{Taken, Appends, AppendsFront}
 use Rattle.carrier_plan.specs.declared.plan.Plan.{Plan}
 use Rattle.carrier_plan.specs.PlanOf.{plan_of}
 use Rattle.plan_checker.specs.Rules.{IsGood, IsFirstFailure}
+use Rattle.link_run.specs.declared.reason.Reason.{Reason}
 use Rattle.link_run.specs.declared.status.Status.{Status}
 use Rattle.link_run.specs.declared.status.Status.TheVariants.{Done, No, Usage, PlanText, FeedBad, ReadFault, WriteFault, NoMemory}
 use Rattle.link_run.specs.Form.{Form, plan_names, feed_names, reached_names}
 use Rattle.link_run.specs.Answer.{IsAnswer, IsSettled, IsGoodFront}
+use Rattle.link_run.specs.Reasons.{bad_line}
 use Rattle.link_run.specs.Printed.{yes_text, no_text}
 
 -- a status that is an answer, and neither a failure of the outside nor want of memory
@@ -43,6 +45,13 @@ pub record Counts (failed : Type 0) (before now : ℕ) : Type 0 where
   pub never_falls : before ≤ now
   pub rose : failed → Rose before now
   pub stays : ¬ failed → now ≡ before
+
+-- The count of the shelf's failures: it never falls, rose after a read fault, and else stays, unless the settled text that a
+-- failed read of a feed leaves could not be written.
+pub record CountsReads (form : Option Form) (status : Status) (before now : ℕ) : Type 0 where
+  pub never_falls : before ≤ now
+  pub rose : status ≡ ReadFault → Rose before now
+  pub stays : status ≢ ReadFault → (status ≡ WriteFault → feed_names form ≡ []) → now ≡ before
 
 -- the name is the last of these
 abbrev pub IsLast : List (List ℕ) → List ℕ → Type 0
@@ -79,6 +88,16 @@ pub record LeavesNothing (form : Option Form) (old new : Shown) (before after : 
   pub written : Appends [] before after
   pub of_feed : IsTrue old.tells → (name taken : List ℕ) → IsTakenFeed form old new name taken → ¬ Contains (plan_names form) name → length taken ≤ 8192
 
+-- What a refused feed leaves: the text that its good lines settle, and then the line of the first bad one.
+pub record LeavesBadLine (form : Option Form) (held : Files) (before after : Taken) (line : ℕ) (reason : Reason) : Type 0 where
+  pub name : List ℕ
+  pub octets : List ℕ
+  pub settled : List ℕ
+  pub of_feed : Contains (feed_names form) name
+  pub held_here : get held name ≡ Some octets
+  pub of_good : IsSettled form held octets settled
+  pub written : Appends (settled ++ bad_line line reason) before after
+
 -- The promise of `check`: yes exactly of a plan that meets the rules, and else its first failure.
 pub record ChecksPlan (name : List ℕ) (held : Files) (old new : Taken) (status : Status) : Type 0 where
   pub yes : status ≡ Done → (octets : List ℕ) × (p : Plan) × (get held name ≡ Some octets) × (plan_of octets ≡ Ok p) × IsGood p × Appends (yes_text p) old new
@@ -92,12 +111,13 @@ pub record Promises (form : Option Form) (shelf shelf' : Shown) (sink sink' : Ta
   pub usage : (status ≡ Usage) ↔ (form ≡ None)
   pub untouched : form ≡ None → (shelf' ≡ shelf) × (sink' ≡ sink)
   pub files : SameFiles shelf shelf'
-  pub reads : Counts (status ≡ ReadFault) shelf.faults shelf'.faults
+  pub reads : CountsReads form status shelf.faults shelf'.faults
   pub writes : Counts (status ≡ WriteFault) sink.faults sink'.faults
   pub answers : IsTrue (is_answer status) → IsTrue shelf.tells → Told form shelf.held sink sink' status
   pub front : status ≡ WriteFault → IsTrue shelf.tells → CutShort form shelf.held sink sink'
   pub reached : status ≡ ReadFault → IsTrue shelf.tells → StandsAt form shelf shelf'
   pub settled : status ≡ ReadFault → IsTrue shelf.tells → LeavesSettled form shelf shelf' sink sink'
+  pub refused : (line : ℕ) (reason : Reason) → status ≡ FeedBad line reason → IsTrue shelf.tells → LeavesBadLine form shelf.held sink sink' line reason
   pub memory : status ≡ NoMemory → LeavesNothing form shelf shelf' sink sink'
 
 -- Where neither count rose, the whole text of the answer was written with its status, or memory was wanting.

@@ -6,7 +6,7 @@ ghost use Rattle.link_run.specs.Reasons.{bad_line};
 ghost use Rattle.link_run.specs.Gathered.{Gathers, BreaksOff};
 ghost use Rattle.link_run.specs.Given.{IsGiven};
 ghost use Rattle.link_run.specs.Feed.{LineForm};
-ghost use Rattle.link_run.specs.FeedCalls.{IsReadAs, BreaksOffAt, Concludes, Finishes, FeedCounts};
+ghost use Rattle.link_run.specs.FeedCalls.{IsReadAs, BreaksOffAt, Concludes, Finishes, FeedCounts, is_feed_status};
 ghost use Rattle.link_run.specs.Promises.{Counts};
 
 use crate::reason::Reason;
@@ -122,6 +122,7 @@ fn finish<F: Feed, H: Shelf, K: Sink>(
     requires limit { number < 2 ^ 32 }
     ensures files { SameFiles (H.shown shelf.old) (H.shown shelf.new) }
     ensures reads { FeedCounts result (H.shown shelf.old).faults (H.shown shelf.new).faults }
+    ensures known { IsTrue (is_feed_status result) }
     ensures writes { Counts (result ≡ Status.WriteFault) (K.taken out.old).faults (K.taken out.new).faults }
     ensures finishes { IsTrue (H.shown shelf.old).tells → Finishes (number + 1) (reader.old.rest ++ (H.shown shelf.old).left) (F.form.closing feed.old) text.old (H.shown shelf.old) (H.shown shelf.new) (K.taken out.old) (K.taken out.new) result }
 {
@@ -144,6 +145,7 @@ pub fn read_lines<F: Feed, H: Shelf, K: Sink>(
     requires limit { F.lines_left feed.old < 2 ^ 31 }
     ensures files { SameFiles (H.shown shelf.old) (H.shown shelf.new) }
     ensures reads { FeedCounts result (H.shown shelf.old).faults (H.shown shelf.new).faults }
+    ensures known { IsTrue (is_feed_status result) }
     ensures writes { Counts (result ≡ Status.WriteFault) (K.taken out.old).faults (K.taken out.new).faults }
     ensures concludes { IsTrue (H.shown shelf.old).tells → Concludes F.form feed.old 2 (reader.old.rest ++ (H.shown shelf.old).left) text.old (H.shown shelf.old) (H.shown shelf.new) (K.taken out.old) (K.taken out.new) result }
 {

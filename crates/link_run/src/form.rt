@@ -8,6 +8,8 @@ ghost use Rattle.link_run.specs.CodeForm.{form_shown};
 pub enum Form<'a> {
     /// `check PLAN`
     Check { plan: &'a str },
+    /// `startup EVENTS`
+    Startup { events: &'a str },
 }
 
 /// The form of the words after the program's name, if they are of one.
@@ -17,6 +19,9 @@ pub fn form_of(words: &[String]) -> Option<Form<'_>>
     match words {
         [word, plan] if word.as_str() == "check" => Some(Form::Check {
             plan: plan.as_str(),
+        }),
+        [word, events] if word.as_str() == "startup" => Some(Form::Startup {
+            events: events.as_str(),
         }),
         _ => None,
     }

@@ -13,6 +13,7 @@ mod plan_file;
 mod reason;
 mod rules_in_words;
 mod run;
+mod startup;
 mod status;
 mod text_buffer;
 mod verdict;

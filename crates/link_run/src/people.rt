@@ -22,7 +22,10 @@ pub fn explain(
         Status::Usage => {
             eprintln!(rt; "usage:")?;
             eprintln!(rt;
-                "  roe_link check PLAN    says whether a plan meets the rules, and how long samples take"
+                "  roe_link check PLAN        says whether a plan meets the rules, and how long samples take"
+            )?;
+            eprintln!(rt;
+                "  roe_link startup EVENTS    says what two ends of a link do over a list of start-up events"
             )
         }
         Status::No { rule, item } => explain_rule(rt, file_of(words), *rule, *item),
@@ -37,6 +40,7 @@ pub fn explain(
 fn file_of(words: &[String]) -> &str {
     match form_of(words) {
         Some(Form::Check { plan }) => plan,
+        Some(Form::Startup { events }) => events,
         None => "a file",
     }
 }

@@ -6,6 +6,7 @@ ghost use Rattle.link_run.specs.Promises.{Promises, IsComplete, ChecksPlan};
 
 use crate::check::check_plan;
 use crate::form::{Form, form_of};
+use crate::startup::play_events;
 use crate::status::Status;
 use link_base::{Shelf, Sink};
 use std::alloc::Global;
@@ -33,5 +34,6 @@ fn run_form<H: Shelf, K: Sink>(
     match form {
         None => Status::Usage,
         Some(Form::Check { plan }) => check_plan(alloc, plan, shelf, out),
+        Some(Form::Startup { events }) => play_events(alloc, events, shelf, out),
     }
 }
