@@ -72,3 +72,6 @@ fn read_events<H: Shelf, K: Sink>(alloc: Global, shelf: &mut H, out: &mut K) -> 
         Err(NoMemory) => Status::NoMemory,
     }
 }
+
+#[cfg(test)]
+mod tests;

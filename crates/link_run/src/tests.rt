@@ -1,7 +1,7 @@
 // Whole calls over files and a sink in memory.
 ghost use Rattle.std.specs.Prelude.{◌<◌};
 
-use crate::{Status, code, run};
+use crate::{Reason, Status, code, run};
 use carrier_plan::{Field, Part, PlanText, Spot};
 use link_base::{MemShelf, MemSink, NoMemory};
 use std::alloc::Global;
@@ -26,13 +26,13 @@ const FLOW: &str =
 
 const YES: &str = "yes\ncarrier 0 delay 3\nflow 0 holds 3\n";
 
-const AMPLE: usize = 4096;
+pub(crate) const AMPLE: usize = 4096;
 
 /// What a call left: its status and the text that was written.
 #[derive(Debug, Drop)]
-struct Outcome {
-    status: Status,
-    text: Vec<u8>,
+pub(crate) struct Outcome {
+    pub(crate) status: Status,
+    pub(crate) text: Vec<u8>,
 }
 
 fn words_of(alloc: Global, words: &[&str]) -> Result<Vec<String>, NoMemory> {
@@ -44,7 +44,7 @@ fn words_of(alloc: Global, words: &[&str]) -> Result<Vec<String>, NoMemory> {
 }
 
 /// Runs the words over a shelf with one file named `a`, by pieces of so many octets.
-fn run_on(
+pub(crate) fn run_on(
     alloc: Global,
     words: &[&str],
     file: &[u8],
@@ -128,9 +128,11 @@ fn two_equal_carriers_share_their_bits(rt: HostRuntime) -> Result<(), Fail> {
 #[test]
 fn words_of_no_form_touch_nothing(rt: HostRuntime) -> Result<(), Fail> {
     let none: [&str; 0] = [];
-    let rows: [&[&str]; 4] = [
+    let rows: [&[&str]; 6] = [
         &none,
         &["chek", "a"],
+        &["startup"],
+        &["startup", "a", "b"],
         &["check", "a", "b"],
         &["drill", "007"],
     ];
@@ -258,6 +260,13 @@ fn each_status_has_its_code(rt: HostRuntime) {
         (Status::No { rule: 7, item: 0 }, 1),
         (Status::Usage, 2),
         (Status::PlanText(PlanText::Long), 3),
+        (
+            Status::FeedBad {
+                line: 1,
+                reason: Reason::Header,
+            },
+            4,
+        ),
         (Status::ReadFault, 5),
         (Status::WriteFault, 6),
         (Status::NoMemory, 7),
