@@ -7,5 +7,7 @@ pub mod Flows
 pub mod Timing
 pub mod Rules
 pub mod Run
+pub mod Place
+pub mod Packets
 pub mod Verdict
 pub mod Laws

@@ -1,5 +1,5 @@
-mod BitLemmas
+pub mod BitLemmas
 mod SpreadLemmas
-mod SignLemmas
-mod SampleLemmas
-mod OctetLemmas
+pub mod SignLemmas
+pub mod SampleLemmas
+pub mod OctetLemmas
