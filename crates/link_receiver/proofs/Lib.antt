@@ -1,0 +1,10 @@
+pub mod Candidates
+pub mod SampleOfBits
+pub mod Bits
+pub mod SimplePlans
+pub mod Entries
+pub mod Addressing
+pub mod Arriving
+pub mod Settled
+pub mod Steps
+pub mod Counting

@@ -1,0 +1,10 @@
+pub mod Simple
+pub mod Records
+pub mod Received
+pub mod Samples
+pub mod Output
+pub mod Arrivals
+pub mod Addressed
+pub mod Block
+pub mod Sessions
+pub mod Laws
