@@ -1,13 +1,13 @@
 -- The lines of a feed, one after another, and the answer to them.
-use Rattle.std.proofs.Common.{◌≡◌, ◌≢◌, ◌≤◌, ◌<◌, ◌+◌, ◌⊎◌, inl, inr, ◌++◌, ◌∷◌, [], ℕ, zero, suc, List, All, length, take, length-append, length-take, get_or, get_or-take, arith, refl, sym, ap, subst, ◌∙◌, append_assoc, append-nil, IsTrue, Bool, true, false, Option, Some, None}
-use Rattle.std.specs.Prelude.{nat_lt, if◌then◌else◌, MatchOption}
+use Rattle.std.proofs.Common.{◌≡◌, ◌≢◌, ◌≤◌, ◌<◌, ◌+◌, ◌⊎◌, inl, inr, ◌++◌, ◌∷◌, [], ℕ, List, All, length, take, length-append, length-take, get_or, get_or-take, arith, refl, sym, ap, subst, ◌∙◌, append_assoc, append-nil, IsTrue, Some, None}
+use Rattle.std.specs.Prelude.{nat_lt, MatchOption}
 use Rattle.std.proofs.lemmas.Bool.{cases_lt, cond-true, cond-false, lt-ltb, le-ltb}
-use Rattle.std.proofs.lemmas.List.{append_cancel_right, flat_map_more, get_or_at}
+use Rattle.std.proofs.lemmas.List.{flat_map_more, get_or_at}
 use Rattle.std.proofs.lemmas.List.Elements.{All-head, All-tail, All-push}
 use Rattle.link_base.specs.Faults.{Rose}
 use Rattle.link_base.specs.Shelf.{Shown}
-use Rattle.link_base.specs.Sink.{Taken, Appends, AppendsFront}
-use Rattle.link_text.specs.Lines.{lines_of, rest_of, with_feeds, longest, HasNoFeed, IsLine, Reading, Gives, GivesNext, Keeps, ShowsEnding, ending_of}
+use Rattle.link_base.specs.Sink.{Taken, AppendsFront}
+use Rattle.link_text.specs.Lines.{lines_of, rest_of, with_feeds, HasNoFeed, IsLine, Reading, Gives, GivesNext, Keeps, ShowsEnding, ending_of}
 use Rattle.link_text.specs.declared.lines.Line.{Line}
 use Rattle.link_text.specs.declared.lines.Line.TheVariants as line
 use Rattle.link_text.specs.declared.lines.Ending.TheVariants as stopped

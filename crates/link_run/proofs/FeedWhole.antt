@@ -1,10 +1,10 @@
 -- A feed from its header to its end.
-use Rattle.std.proofs.Common.{◌≡◌, ◌≢◌, ◌≤◌, ◌<◌, ◌+◌, ◌⊎◌, inl, inr, ◌++◌, ◌∷◌, [], ℕ, List, length, take, length-append, arith, refl, sym, ap, subst, ◌∙◌, append_assoc, append-nil, IsTrue, Bool, true, Option, Some, None}
+use Rattle.std.proofs.Common.{◌≡◌, ◌≢◌, ◌≤◌, ◌<◌, ◌+◌, ◌⊎◌, inl, inr, ◌++◌, ◌∷◌, [], ℕ, List, length, take, length-append, arith, refl, sym, ap, subst, ◌∙◌, append_assoc, IsTrue, true, Option, Some, None}
 use Rattle.std.specs.Prelude.{nat_lt, if◌then◌else◌}
 use Rattle.std.proofs.lemmas.Bool.{cases_lt, cond-true, cond-false, lt-ltb, le-ltb}
 use Rattle.link_base.specs.Shelf.{Shown}
 use Rattle.link_base.specs.Sink.{Taken}
-use Rattle.link_text.specs.Lines.{lines_of, rest_of, with_feeds, longest, HasNoFeed, IsLine, Reading, Gives, Keeps, ShowsEnding, ending_of}
+use Rattle.link_text.specs.Lines.{lines_of, rest_of, with_feeds, HasNoFeed, IsLine, Reading, Gives, Keeps, ShowsEnding, ending_of}
 use Rattle.link_text.specs.declared.lines.Line.{Line}
 use Rattle.link_text.specs.declared.lines.Line.TheVariants as line
 use Rattle.link_text.specs.declared.lines.Ending.TheVariants as stopped
@@ -13,12 +13,12 @@ use Rattle.link_text.proofs.Next.{GivesLine, GivesNone}
 use Rattle.link_run.specs.declared.reason.Reason.{Reason}
 use Rattle.link_run.specs.declared.reason.Reason.TheVariants as reason
 use Rattle.link_run.specs.declared.status.Status.{Status}
-use Rattle.link_run.specs.declared.status.Status.TheVariants.{FeedBad, ReadFault, WriteFault}
+use Rattle.link_run.specs.declared.status.Status.TheVariants.{FeedBad, ReadFault}
 use Rattle.link_run.specs.Reasons.{bad_line}
 use Rattle.link_run.specs.Given.{IsGiven}
 use Rattle.link_run.specs.Promises.{is_answer}
 use Rattle.link_run.specs.Feed.{Step, goes_on, ends, is_bad, LineForm, step_at, StopsAt, IsLastOrNone, IsRead, Ending, bad_at, ends_within, behind_last, ending_at, ending_by, FeedForm, by_header, first_step, IsReadFrom, IsReadOf, IsFeedRead, SettlesFrom, SettlesOf, IsFeedSettled, HasNoBadFrom, HasNoBadOf, IsFeedFront}
-use Rattle.link_run.specs.FeedCalls.{Concludes, IsStopped, FeedStopped, FeedGiven, FeedWants}
+use Rattle.link_run.specs.FeedCalls.{Concludes, IsStopped, FeedGiven, FeedWants}
 use Rattle.link_run.proofs.FeedLines.{read_then, answered, unread_line, unread_none, unread_gives, feed_in_front}
 
 module _ {S : Type 0} (form : FeedForm S) where

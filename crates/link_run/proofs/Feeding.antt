@@ -1,6 +1,6 @@
 -- The promise of `startup`, from what reading its feed leaves.
-use Rattle.std.proofs.Common.{IsTrue, ◌≡◌, ◌≢◌, ◌≤◌, ◌⊎◌, inl, inr, ◌++◌, ◌∷◌, [], ℕ, List, true, false, length, take, arith, refl, sym, ap, subst, ◌∙◌, Option, Some, None, append-nil, length-append}
-use Rattle.std.specs.Prelude.{Contains, is_some}
+use Rattle.std.proofs.Common.{IsTrue, ◌≡◌, ◌≢◌, ◌≤◌, ◌⊎◌, inl, inr, ◌++◌, ◌∷◌, [], ℕ, List, true, false, length, arith, refl, sym, ap, subst, ◌∙◌, Option, Some}
+use Rattle.std.specs.Prelude.{Contains}
 use Rattle.std.specs.FinMap.{get}
 use Rattle.std.proofs.Math.Seq.{take-length}
 use Rattle.std.proofs.lemmas.List.{append_cancel_right}
@@ -10,14 +10,13 @@ use Rattle.link_base.specs.Sink.{Taken, Appends, AppendsFront}
 use Rattle.link_run.specs.declared.reason.Reason.{Reason}
 use Rattle.link_run.specs.declared.status.Status.{Status}
 use Rattle.link_run.specs.declared.status.Status.TheVariants.{Usage, FeedBad, ReadFault, WriteFault, NoMemory}
-use Rattle.link_run.specs.Form.{Form, startup}
-use Rattle.link_run.specs.Reasons.{bad_line}
+use Rattle.link_run.specs.Form.{startup}
 use Rattle.link_run.specs.Feed.{IsFeedRead, IsFeedSettled, IsFeedFront}
 use Rattle.link_run.specs.Events.{events_form}
 use Rattle.link_run.specs.Answer.{IsStartupAnswer}
-use Rattle.link_run.specs.Given.{IsGiven, IsWhole, IsCut}
+use Rattle.link_run.specs.Given.{IsGiven}
 use Rattle.link_run.specs.FeedCalls.{FeedGiven, FeedStopped, FeedWants, FeedCounts}
-use Rattle.link_run.specs.Promises.{Promises, Counts, CountsReads, is_answer, Told, CutShort, StandsAt, LeavesSettled, LeavesNothing, LeavesBadLine, IsTakenFeed}
+use Rattle.link_run.specs.Promises.{Promises, Counts, is_answer, Told, CutShort, StandsAt, LeavesSettled, LeavesNothing, LeavesBadLine}
 use Rattle.link_run.proofs.Filling.{files_stay}
 use Rattle.link_run.proofs.Loading.{counted_ok, reads_failed, select_fails}
 use Rattle.link_run.proofs.Gathering.{appends_none, front_of_more}

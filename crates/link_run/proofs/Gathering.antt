@@ -7,8 +7,8 @@ use Rattle.link_base.specs.Sink.{Taken, Appends, AppendsFront}
 use Rattle.link_run.specs.declared.status.Status.{Status}
 use Rattle.link_run.specs.declared.status.Status.TheVariants.{WriteFault}
 use Rattle.link_run.specs.Promises.{Counts}
-use Rattle.link_run.specs.Gathered.{Gathers, BreaksOff}
-use Rattle.link_run.specs.Given.{IsGiven, IsWhole, IsCut}
+use Rattle.link_run.specs.Gathered.{Gathers}
+use Rattle.link_run.specs.Given.{IsGiven}
 use Rattle.link_run.proofs.Loading.{counted_ok, counted_err}
 
 pub appends_none : (sink : Taken) → Appends [] sink sink

@@ -1,4 +1,4 @@
-use Rattle.std.proofs.Common.{◌≡◌, ◌+◌, ◌≤◌, ◌∙◌, arith, ap, inl, inr, refl, sym, subst, IsTrue}
+use Rattle.std.proofs.Common.{◌≡◌, ◌+◌, ◌∙◌, arith, ap, refl, sym, subst, IsTrue}
 use Rattle.link_text.specs.declared.lines.Ending.TheVariants as stopped
 use Rattle.link_text.specs.Lines.{ending_of}
 use Rattle.link_text.proofs.Next.{gives_none, gives_line}

@@ -1,4 +1,4 @@
-use Rattle.std.proofs.Common.{◌≡◌, ◌+◌, ◌≤◌, ◌<◌, ◌++◌, IsTrue, None}
+use Rattle.std.proofs.Common.{◌≡◌, ◌+◌, ◌≤◌, IsTrue, None}
 use Rattle.link_base.specs.Shelf.{SameFiles}
 use Rattle.link_run.proofs.FeedLines.{ReadSoFar}
 use Rattle.link_run.proofs.feed.read_lines.Given as goal

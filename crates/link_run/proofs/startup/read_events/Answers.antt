@@ -1,12 +1,11 @@
-use Rattle.std.proofs.Common.{◌≡◌, ◌⊎◌, ◌∙◌, inl, inr, [], List, ℕ, ap, sym, subst, refl, Some, IsTrue}
+use Rattle.std.proofs.Common.{inl, [], ap, sym, subst, refl, IsTrue}
 use Rattle.link_text.specs.Lines.{Reading, ending_of}
 use Rattle.link_text.specs.declared.lines.Ending.TheVariants as stopped
-use Rattle.link_text.specs.declared.lines.Line.TheVariants as line
 use Rattle.link_text.proofs.Next.{gives_line, gives_none}
 use Rattle.link_run.specs.declared.reason.Reason.TheVariants as reason
 use Rattle.link_run.specs.declared.status.Status.TheVariants.{FeedBad, ReadFault}
 use Rattle.link_run.specs.Reasons.{bad_line}
-use Rattle.link_run.specs.Events.{events_form, event_lines, begun_with}
+use Rattle.link_run.specs.Events.{events_form, begun_with}
 use Rattle.link_run.specs.Feed.{IsFeedRead}
 use Rattle.link_run.proofs.Gathering.{appends_none}
 use Rattle.link_run.proofs.FeedWhole.{feed_given, feed_failed, feed_wants, feed_concludes, feed_octets, feed_no_header, feed_too_long, feed_short}
