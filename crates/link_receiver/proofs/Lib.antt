@@ -8,3 +8,4 @@ pub mod Arriving
 pub mod Settled
 pub mod Steps
 pub mod Counting
+pub mod Simplicity

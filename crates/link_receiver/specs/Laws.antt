@@ -1,5 +1,5 @@
 -- Laws over what is received. This is the project's own.
-use Rattle.std.specs.Prelude.{◌≡◌, ℕ, ◌<◌, ◌≤◌, ◌++◌, List, IsTrue, All, Contains}
+use Rattle.std.specs.Prelude.{◌≡◌, ℕ, ◌<◌, ◌≤◌, ◌++◌, List, IsTrue, All, Contains, ◌↔◌}
 use Rattle.carrier_plan.specs.declared.plan.Flow.{Flow}
 use Rattle.carrier_plan.specs.declared.plan.Plan.{Plan}
 use Rattle.plan_checker.specs.Rules.{IsGood}
@@ -7,7 +7,7 @@ use Rattle.plan_checker.specs.Run.{ticks_of_run}
 use Rattle.link_receiver.specs.Records.{Record, is_candidate}
 use Rattle.link_receiver.specs.Output.{entries_at}
 use Rattle.link_receiver.specs.Received.{taken}
-use Rattle.link_receiver.specs.Simple.{IsSimple}
+use Rattle.link_receiver.specs.Simple.{IsSimple, is_simple}
 
 -- At each tick a sequence number has one candidate at most, in each flow of each plan that meets the rules.
 abbrev pub CandidatesAreUnique : Type 0
@@ -26,3 +26,7 @@ abbrev pub TakenIsSettled : Type 0
 TakenIsSettled =
     (p : Plan) (f : Flow) (h : ℕ) (records later : List Record) → IsGood p → IsSimple p → Contains p.flows f
     → All (λ r. ticks_of_run p h ≤ r.tick) later → taken p f h (records ++ later) ≡ taken p f h records
+
+-- The test of a plan says whether it is one of those that are played so far.
+abbrev pub SimplicityIsComputed : Type 0
+SimplicityIsComputed = (p : Plan) → IsTrue (is_simple p) ↔ IsSimple p

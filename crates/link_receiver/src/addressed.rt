@@ -1,7 +1,6 @@
 // Which packet of a run octets are taken for.
 ghost use Rattle.std.specs.Prelude.{◌≡◌, ◌≤◌, ◌^◌, MatchResult, Some, Ok, length, slice_get};
 ghost use Rattle.carrier_plan.specs.declared.plan.Flow.{Flow as OneFlow};
-ghost use Rattle.plan_checker.specs.Run.{ticks_of_run};
 ghost use Rattle.roe_header.specs.Layout.{fields, parsed};
 ghost use Rattle.link_receiver.specs.Addressed.{IsFor, IsForNone};
 ghost use Rattle.link_receiver.specs.Simple.{IsSimple};
@@ -12,9 +11,9 @@ use crate::session::{PAYLOAD, Payload};
 use plan_checker::Checked;
 use roe_header::{Packet, parse};
 
-/// The number and the payload of a packet of the run.
+/// The payload of a packet of the run, with the number of that packet.
 #[derive(Clone, Copy, Debug, PartialEq, Eq)]
-pub struct Numbered {
+pub struct NumberedPayload {
     pub number: u64,
     pub payload: Payload,
 }
@@ -29,13 +28,13 @@ fn payload_of(octets: &[u8]) -> Payload
     payload
 }
 
-// The packet of a run of `frames` ticks that a packet is at tick `tick`, or what is answered to it.
+// Which packet of a run of `frames` ticks a packet is at tick `tick`, with its payload, or what is answered to it.
 fn addressed_packet(
     checked: &Checked,
     frames: u64,
     tick: u64,
     packet: &Packet<'_>,
-) -> Result<Numbered, Arrive>
+) -> Result<NumberedPayload, Arrive>
     requires simple { IsSimple checked.now }
     requires frames { frames ≤ 2 ^ 40 }
     requires tick { tick ≤ 2 ^ 42 }
@@ -58,7 +57,7 @@ fn addressed_packet(
     }
     let payload = payload_of(packet.payload);
     match candidate(flow, frames + 1, tick, packet.seq) {
-        Some(number) => Ok(Numbered { number, payload }),
+        Some(number) => Ok(NumberedPayload { number, payload }),
         None => Err(Arrive::Outside {
             flow: 0,
             seq: packet.seq,
@@ -66,13 +65,14 @@ fn addressed_packet(
     }
 }
 
-/// The packet of a run of `frames` ticks that octets are at tick `tick`, or what is answered to them.
+/// Which packet of a run of `frames` ticks octets are at tick `tick`, with its payload, or what is answered to them. Whether
+/// it was received before is not looked at.
 pub fn addressed(
     checked: &Checked,
     frames: u64,
     tick: u64,
     octets: &[u8],
-) -> Result<Numbered, Arrive>
+) -> Result<NumberedPayload, Arrive>
     requires simple { IsSimple checked.now }
     requires frames { frames ≤ 2 ^ 40 }
     requires tick { tick ≤ 2 ^ 42 }

@@ -2,7 +2,7 @@
 use roe_header::NotRoe;
 use thiserror::Error;
 
-/// Why octets are of no flow of the plan.
+/// Why octets are of no flow of the plan: the first of these that applies.
 #[derive(Clone, Copy, Debug, PartialEq, Eq, Error)]
 pub enum Foreign {
     /// They are no packet.
@@ -16,7 +16,8 @@ pub enum Foreign {
     Flow { id: u8 },
 }
 
-/// What was done with octets that arrived. Only `Taken` changes what is received.
+/// What was done with octets that arrived. The first that applies is answered, in the order `Foreign`, `Size`, `Outside`,
+/// `Repeat`, `Taken`, and only `Taken` changes what is received. `flow` is the place of the flow in the plan.
 #[derive(Clone, Copy, Debug, PartialEq, Eq)]
 pub enum Arrive {
     /// They are the first record of packet `number` of the flow.
@@ -25,7 +26,7 @@ pub enum Arrive {
     Repeat { flow: u32, number: u64 },
     /// No packet of the flow with this sequence number may arrive at this tick.
     Outside { flow: u32, seq: u32 },
-    /// The payload has another length than the packets of the flow.
+    /// The payload has another length, in octets, than the packets of the flow.
     Size { flow: u32, length: usize },
     /// They are of no flow.
     Foreign(Foreign),

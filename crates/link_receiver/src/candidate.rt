@@ -24,6 +24,7 @@ pub fn candidate(flow: &Flow, packets: u64, now: u64, seq: u32) -> Option<u64>
         return None;
     }
     let frames = u64::from(flow.frames);
+    // The windows of the packets below this number have opened.
     let opened = (now + 1).saturating_sub(u64::from(flow.lmin)) / frames;
     let Some(latest) = latest_below(opened, high * p + low, q * p) else {
         return None;

@@ -11,6 +11,11 @@ mod session;
 mod simple;
 
 pub use arrive::{Arrive, Foreign};
-pub use laws::{candidates_are_unique, entries_are_settled, taken_is_settled};
+pub use laws::{
+    candidates_are_unique, entries_are_settled, simplicity_is_computed, taken_is_settled,
+};
 pub use session::{Counts, Entry, Session};
 pub use simple::is_simple;
+
+#[cfg(test)]
+mod tests;

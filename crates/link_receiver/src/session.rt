@@ -1,5 +1,5 @@
 // Plays a run: octets arrive at the present tick, and samples leave at each.
-ghost use Rattle.std.specs.Prelude.{◌≡◌, ◌+◌, ◌<◌, ◌≤◌, ◌^◌, ◌++◌, ◌∷◌, [], List, ℕ, length, replicate, IfOk, IsTrue, slice_get, slice_index_or, slice_set, Some, None};
+ghost use Rattle.std.specs.Prelude.{◌≡◌, ◌+◌, ◌<◌, ◌≤◌, ◌^◌, ◌++◌, ◌∷◌, [], List, length, replicate, IfOk, IsTrue, slice_get, slice_index_or, slice_set, Some, None};
 ghost use Rattle.std.specs.Option.{is_some};
 ghost use Rattle.carrier_plan.specs.declared.plan.Flow.{Flow as OneFlow};
 ghost use Rattle.plan_checker.specs.Packets.{run_packets};
@@ -12,7 +12,7 @@ ghost use Rattle.link_receiver.specs.Records.{Record};
 ghost use Rattle.link_receiver.specs.Sessions.{SessionView, StandsFor};
 ghost use Rattle.link_receiver.specs.Simple.{IsSimple};
 
-use crate::addressed::{Numbered, addressed};
+use crate::addressed::{NumberedPayload, addressed};
 use crate::arrive::Arrive;
 use crate::playing::{Run, play};
 use link_base::NoMemory;
@@ -40,10 +40,12 @@ pub struct Entry {
     pub value: Option<RawIq>,
 }
 
-/// How many packets of a flow were received, and how many its run has.
+/// How the packets of a flow fared. Those that were not received are missed.
 #[derive(Clone, Copy, Debug, PartialEq, Eq)]
 pub struct Counts {
+    /// The packets that were received.
     pub taken: u64,
+    /// The packets of the run.
     pub packets: u64,
 }
 
@@ -52,10 +54,15 @@ pub struct Counts {
 #[derive(Drop)]
 pub struct Session<const Y: usize> {
     checked: Checked,
+    // The ticks of the run.
     frames: u64,
+    // The present tick, which was not yet played.
     present: u64,
+    // Of each packet of the run, the payload that was received.
     payloads: Vec<Option<Payload>>,
+    // How many packets were received.
     taken: u64,
+    // The entries of the tick that was played last.
     entries: Vec<Entry>,
 }
 
@@ -87,7 +94,8 @@ fn no_payloads(alloc: Global, packets: usize) -> Result<Vec<Option<Payload>>, No
 }
 
 impl<const Y: usize> Session<Y> {
-    /// A run of `frames` ticks of a plan that meets the rules. All memory that it needs is taken here.
+    /// A run of `frames` ticks of a plan that meets the rules, at tick 0. All memory that it needs is taken here: a place for the
+    /// payload of each packet of the run, and places for the entries of a tick.
     pub fn begin(alloc: Global, checked: &Checked, frames: u64) -> Result<Session<Y>, NoMemory>
         requires words { Y ≡ word_size checked.now.option }
         requires simple { IsSimple checked.now }
@@ -109,7 +117,8 @@ impl<const Y: usize> Session<Y> {
         })
     }
 
-    /// Octets arrive at the present tick. Addresses are not compared.
+    /// Takes octets that arrive at the present tick, and says what was done with them. Addresses are not compared, and octets
+    /// behind the payload are read past.
     pub fn arrive(&mut self, octets: &[u8]) -> Arrive
         ensures plan { self.new.plan ≡ self.old.plan }
         ensures frames { self.new.frames ≡ self.old.frames }
@@ -124,8 +133,8 @@ impl<const Y: usize> Session<Y> {
         }
     }
 
-    // Keeps the payload of a packet, unless one was received.
-    fn keep(&mut self, packet: Numbered) -> Arrive
+    // Keeps the payload of a packet, unless one was received before.
+    fn keep(&mut self, packet: NumberedPayload) -> Arrive
         requires { packet.number < length self.old.payloads }
         ensures plan { self.new.plan ≡ self.old.plan }
         ensures frames { self.new.frames ≡ self.old.frames }
@@ -151,7 +160,7 @@ impl<const Y: usize> Session<Y> {
         }
     }
 
-    /// Plays the present tick, and goes to the next.
+    /// Plays the present tick, and goes to the next. What arrives at a tick has to be handed in before.
     pub fn tick(&mut self)
         requires { self.old.tick < ticks_of_run self.old.plan self.old.frames }
         ensures plan { self.new.plan ≡ self.old.plan }
@@ -175,7 +184,7 @@ impl<const Y: usize> Session<Y> {
         self.present
     }
 
-    /// The entries of the tick that was played last, by carrier, then number.
+    /// The entries of the tick that was played last, by carrier, then number. Before the first `tick` there are none.
     pub fn entries(&self) -> &[Entry]
         ensures { (records : List Record) → StandsFor self.now records
             → result.now ≡ entries_before self.now.plan self.now.frames records self.now.tick }
