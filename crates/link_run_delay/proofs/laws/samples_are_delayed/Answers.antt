@@ -1,0 +1,5 @@
+use Rattle.link_run_delay.proofs.Delayed.{SamplesAreDelayed-holds}
+use Rattle.link_run_delay.proofs.laws.samples_are_delayed.Goals as goal
+
+pub returns : goal.returns
+returns c = SamplesAreDelayed-holds
