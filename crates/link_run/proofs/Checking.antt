@@ -13,9 +13,9 @@ use Rattle.carrier_plan.specs.declared.fault.PlanText as fault
 use Rattle.carrier_plan.specs.declared.fault.PlanText.TheVariants.{Long}
 use Rattle.link_run.specs.declared.reason.Reason.{Reason}
 use Rattle.link_run.specs.declared.status.Status.{Status}
-use Rattle.link_run.specs.declared.status.Status.TheVariants.{Done, No, Usage, PlanText, FeedBad, ReadFault, WriteFault, NoMemory}
-use Rattle.link_run.specs.Form.{check}
-use Rattle.link_run.specs.Answer.{IsVerdict, IsPlanAnswer, IsCheckAnswer}
+use Rattle.link_run.specs.declared.status.Status.TheVariants.{Done, No, Usage, PlanText, FeedBad, ReadFault, WriteFault, NoMemory, Unbuilt}
+use Rattle.link_run.specs.Form.{Form, check}
+use Rattle.link_run.specs.Answer.{IsAnswer, IsVerdict, IsPlanAnswer, IsCheckAnswer}
 use Rattle.link_run.specs.PlanFile.{plan_limit, IsPlanFile, FailsAtFile}
 use Rattle.link_run.specs.Given.{IsWhole, IsCut, IsVerdictGiven}
 use Rattle.link_run.specs.Promises.{Promises, is_answer, IsReached}
@@ -43,7 +43,7 @@ too_long : (octets : List ℕ) → 65536 < length octets → plan_of octets ≡ 
 unfolding plan_of
 too_long octets long = cond-true (nat_lt 65536 (length octets)) _ _ (lt-ltb 65536 (length octets) long)
 
-plan_of_front : (whole : List ℕ) → plan_of (take plan_limit whole) ≡ plan_of whole
+pub plan_of_front : (whole : List ℕ) → plan_of (take plan_limit whole) ≡ plan_of whole
 plan_of_front whole = elim (cases_lt 65536 (length whole)) [
   | inl long ↦ too_long (take plan_limit whole) (omega (arith, length-take plan_limit whole)) ∙ sym (too_long whole long)
   | inr short ↦ ap plan_of (take_all plan_limit whole (omega arith))
@@ -111,6 +111,7 @@ answering_verdict p (FeedBad line reason) text h = absurd h
 answering_verdict p ReadFault text h = absurd h
 answering_verdict p WriteFault text h = absurd h
 answering_verdict p NoMemory text h = absurd h
+answering_verdict p Unbuilt text h = absurd h
 
 answering : (read : Result Plan fault.PlanText) (status : Status) (text : List ℕ) → IsPlanAnswer read status text → is_answer status ≡ true
 answering (Ok p) status text h = answering_verdict p status text h
@@ -125,6 +126,7 @@ not_usage_verdict p (FeedBad line reason) text h = absurd h
 not_usage_verdict p ReadFault text h = absurd h
 not_usage_verdict p WriteFault text h = absurd h
 not_usage_verdict p NoMemory text h = absurd h
+not_usage_verdict p Unbuilt text h = absurd h
 
 not_usage : (read : Result Plan fault.PlanText) (status : Status) (text : List ℕ) → IsPlanAnswer read status text → status ≢ Usage
 not_usage (Ok p) status text h = not_usage_verdict p status text h
@@ -139,6 +141,7 @@ not_bad_verdict p (FeedBad line' reason') text h line reason = absurd h
 not_bad_verdict p ReadFault text h line reason = absurd h
 not_bad_verdict p WriteFault text h line reason = absurd h
 not_bad_verdict p NoMemory text h line reason = absurd h
+not_bad_verdict p Unbuilt text h line reason = absurd h
 
 not_bad : (read : Result Plan fault.PlanText) (status : Status) (text : List ℕ) → IsPlanAnswer read status text → (line : ℕ) (reason : Reason) → status ≢ FeedBad line reason
 not_bad (Ok p) status text h line reason = not_bad_verdict p status text h line reason
@@ -154,18 +157,18 @@ no_answer : (status failure : Status) → is_answer status ≡ true → is_answe
 no_answer status failure answers fails same = let e = ap is_answer same in absurd (cc)
 
 -- the whole text of the answer was written
-after_whole : (name : List ℕ) (old new : Shown) (before after : Taken) (answer result : Status) (text : List ℕ) → SameFiles old new → new.faults ≡ old.faults
-    → is_answer answer ≡ true → answer ≢ Usage → ((line : ℕ) (reason : Reason) → answer ≢ FeedBad line reason) → (IsTrue old.tells → IsCheckAnswer (get old.held name) answer text) → IsWhole answer text before after result
-    → Promises (Some (check name)) old new before after result
-after_whole name old new before after answer result text files same answers other no_bad judged whole =
+pub after_whole : (form : Form) (old new : Shown) (before after : Taken) (answer result : Status) (text : List ℕ) → SameFiles old new → new.faults ≡ old.faults
+    → is_answer answer ≡ true → answer ≢ Usage → ((line : ℕ) (reason : Reason) → answer ≢ FeedBad line reason) → (IsTrue old.tells → IsAnswer (Some form) old.held answer text) → IsWhole answer text before after result
+    → Promises (Some form) old new before after result
+after_whole form old new before after answer result text files same answers other no_bad judged whole =
     let is_yes : is_answer result ≡ true = ap is_answer whole.status ∙ answers in
     record {
       usage = (λ no. absurd (other (sym whole.status ∙ no)), λ no. absurd (cc));
       untouched = λ no. absurd (cc);
       files = files;
-      reads = reads_stay (Some (check name)) result old.faults new.faults (no_answer result ReadFault is_yes refl) same;
+      reads = reads_stay (Some form) result old.faults new.faults (no_answer result ReadFault is_yes refl) same;
       writes = counted_ok _ before.faults after.faults (no_answer result WriteFault is_yes refl) whole.count;
-      answers = λ ok told. record { text = text; written = whole.written; answer = subst (λ s. IsCheckAnswer (get old.held name) s text) (sym whole.status) (judged told) };
+      answers = λ ok told. record { text = text; written = whole.written; answer = subst (λ s. IsAnswer (Some form) old.held s text) (sym whole.status) (judged told) };
       front = λ no. absurd (no_answer result WriteFault is_yes refl no);
       reached = λ no. absurd (no_answer result ReadFault is_yes refl no);
       settled = λ no. absurd (no_answer result ReadFault is_yes refl no);
@@ -174,16 +177,16 @@ after_whole name old new before after answer result text files same answers othe
     }
 
 -- a write failed
-after_cut : (name : List ℕ) (old new : Shown) (before after : Taken) (answer result : Status) (text : List ℕ) → SameFiles old new → new.faults ≡ old.faults
-    → (IsTrue old.tells → IsCheckAnswer (get old.held name) answer text) → IsCut text before after result
-    → Promises (Some (check name)) old new before after result
-after_cut name old new before after answer result text files same judged cut =
+pub after_cut : (form : Form) (old new : Shown) (before after : Taken) (answer result : Status) (text : List ℕ) → SameFiles old new → new.faults ≡ old.faults
+    → (IsTrue old.tells → IsAnswer (Some form) old.held answer text) → IsCut text before after result
+    → Promises (Some form) old new before after result
+after_cut form old new before after answer result text files same judged cut =
     let is = cut.status in
     record {
       usage = (λ no. absurd (cc), λ no. absurd (cc));
       untouched = λ no. absurd (cc);
       files = files;
-      reads = reads_stay (Some (check name)) result old.faults new.faults (λ h. cc) same;
+      reads = reads_stay (Some form) result old.faults new.faults (λ h. cc) same;
       writes = counted_err _ before.faults after.faults is cut.never_falls cut.rose;
       answers = λ ok told. absurd (let e = ap is_answer is in cc);
       front = λ no told. record { status = answer; text = text; front = cut.front; answer = judged told };
@@ -200,7 +203,7 @@ after_verdict name octets old new before after result files same file (inl nothi
     subst (λ status. Promises (Some (check name)) old new before after status) (sym nothing.status)
     (subst (λ sink. Promises (Some (check name)) old new before sink NoMemory) (sym nothing.same) (after_memory name old new before files same))
 after_verdict name octets old new before after result files same file (inr (answer, text, judged, inl whole)) =
-    after_whole name old new before after answer result text files same (answering (plan_of octets) answer text judged) (not_usage (plan_of octets) answer text judged) (not_bad (plan_of octets) answer text judged)
+    after_whole (check name) old new before after answer result text files same (answering (plan_of octets) answer text judged) (not_usage (plan_of octets) answer text judged) (not_bad (plan_of octets) answer text judged)
     (λ told. check_answer name octets old.held answer text (file told) judged) whole
 after_verdict name octets old new before after result files same file (inr (answer, text, judged, inr cut)) =
-    after_cut name old new before after answer result text files same (λ told. check_answer name octets old.held answer text (file told) judged) cut
+    after_cut (check name) old new before after answer result text files same (λ told. check_answer name octets old.held answer text (file told) judged) cut

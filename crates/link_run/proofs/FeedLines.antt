@@ -45,6 +45,10 @@ pub lead_one : {S : Type 0} (form : LineForm S) (start mid next : S) (lines : Li
 lead_one form start mid next lines line a settled first step =
     lead_then form start mid next lines (line ∷ []) a settled first (next, settled, [], step, (refl, refl), sym (append-nil settled))
 
+-- Where a feed keeps the whole state, a state that it stands for is that one.
+pub of_whole_state : {S : Type 0} (P : S → Type 0) (kept : S) → P kept → (s : S) → kept ≡ s → P s
+of_whole_state P kept given s same = subst P same given
+
 -- Every feed has an answer.
 abbrev pub IsAnswered : {S : Type 0} → LineForm S → S → ℕ → List (List ℕ) → List ℕ → Type 0
 IsAnswered form s number lines rest = (status : Status) × (text : List ℕ) × IsRead form s number lines rest status text

@@ -7,4 +7,12 @@ pub mod Headers
 pub mod FeedWhole
 pub mod Checking
 pub mod Feeding
+pub mod Starting
 pub mod Running
+pub mod Plays
+pub mod Capturing
+pub mod Playing
+pub mod Replaying
+pub mod ReplayWhole
+pub mod Digits
+pub mod WholeCapture

@@ -10,7 +10,7 @@ use Rattle.link_run.specs.Promises.{Counts, CountsReads}
 use Rattle.link_run.specs.declared.status.Status.{Status}
 use Rattle.link_run.specs.declared.status.Status.TheVariants.{ReadFault}
 use Rattle.link_run.specs.Form.{Form}
-use Rattle.link_run.specs.PlanFile.{plan_limit, IsPlanFile, Loads, FailsAtFile, Fills, FailsToFill}
+use Rattle.link_run.specs.PlanFile.{plan_limit, IsPlanFile, FailsAtFile, FailsToRead, Fills}
 
 -- a name is that of a file, or of none
 named : (name : List ℕ) (found : Option (List ℕ)) → ((if is_some found then Some name else None) ≡ Some name) ⊎ (((if is_some found then Some name else None) ≡ None) × (found ≡ None))
@@ -27,30 +27,30 @@ select_fails name old new fails = record {
   taken = λ whole found chosen. absurd (let none = fails.chosen in cc);
 }
 
-pub read_fails : (name buffer : List ℕ) (old mid new : Shown) → length buffer ≡ plan_limit → Opens name old mid → FailsToFill buffer mid new → FailsAtFile name old new
-read_fails name buffer old mid new size opens fails = record {
+pub read_fails : (name : List ℕ) (old mid new : Shown) → Opens name old mid → FailsToRead mid new → FailsAtFile name old new
+read_fails name old mid new opens fails = record {
   chosen = inl (fails.chosen ∙ sym fails.failed);
   failed = inl (fails.failed ∙ opens.chosen);
   taken = λ whole found chosen.
       let same : whole ≡ mid.left = let left = opens.left in cc in
-      omega (arith, ap length same, fails.taken, size);
+      omega (arith, ap length same, fails.taken);
 }
 
-pub loads : (name before after : List ℕ) (k : ℕ) (old mid new : Shown) → length before ≡ plan_limit → Opens name old mid → Fills k before after mid new → Loads name old.held k after
-loads name before after k old mid new size opens fills = record {
-  whole = mid.left;
-  held_here = opens.left;
-  front =
-      ap (take k) fills.front.buffer
-      ∙ take_at (take k mid.left) (drop k before) k (length-take-le k mid.left fills.front.within)
-      ∙ elim (cases_lt k plan_limit) [
-        | inl short ↦
-            let none_left : drop k mid.left ≡ [] = sym fills.front.left ∙ fills.end (omega (arith, size)) in
-            let all : take k mid.left ≡ mid.left = sym (append-nil (take k mid.left)) ∙ ap (λ rest. take k mid.left ++ rest) (sym none_left) ∙ take-append-drop k mid.left in
-            all ∙ sym (take_all plan_limit mid.left (omega (arith, length-take-le k mid.left fills.front.within, ap length all)))
-        | inr full ↦ let same : k ≡ plan_limit = omega (arith, size, fills.front.fits) in ap (λ n. take n mid.left) same
-      ];
-}
+-- the buffer was filled as far as the file goes
+pub front_read : (before after : List ℕ) (k : ℕ) (mid new : Shown) → length before ≡ plan_limit → Fills k before after mid new → take k after ≡ take plan_limit mid.left
+front_read before after k mid new size fills =
+    ap (take k) fills.front.buffer
+    ∙ take_at (take k mid.left) (drop k before) k (length-take-le k mid.left fills.front.within)
+    ∙ elim (cases_lt k plan_limit) [
+      | inl short ↦
+          let none_left : drop k mid.left ≡ [] = sym fills.front.left ∙ fills.end (omega (arith, size)) in
+          let all : take k mid.left ≡ mid.left = sym (append-nil (take k mid.left)) ∙ ap (λ rest. take k mid.left ++ rest) (sym none_left) ∙ take-append-drop k mid.left in
+          all ∙ sym (take_all plan_limit mid.left (omega (arith, length-take-le k mid.left fills.front.within, ap length all)))
+      | inr full ↦ let same : k ≡ plan_limit = omega (arith, size, fills.front.fits) in ap (λ n. take n mid.left) same
+    ]
+
+pub plan_file_read : (name octets : List ℕ) (old mid : Shown) → Opens name old mid → octets ≡ take plan_limit mid.left → IsPlanFile name old.held octets
+plan_file_read name octets old mid opens front = record { whole = mid.left; held_here = opens.left; front = front }
 
 -- a vector is cut to its first octets after all of it was lent and given back
 pub cut_to : (count n : ℕ) (written items : List ℕ) → length written ≡ length items → n ≡ length items
@@ -89,5 +89,6 @@ reads_failed form before now never_falls rose = record {
   stays = λ not_read not_write. absurd (not_read refl);
 }
 
-pub loaded : (name : List ℕ) (held : Files) (front octets : List ℕ) → octets ≡ front → IsPlanFile name held front → IsPlanFile name held octets
-loaded name held front octets same file = subst (IsPlanFile name held) (sym same) file
+-- a count over two calls, of which the first succeeds
+pub counted_then : (failed : Type 0) (before mid now : ℕ) → mid ≡ before → Counts failed mid now → Counts failed before now
+counted_then failed before mid now same counts = subst (λ n. Counts failed n now) same counts

@@ -8,7 +8,7 @@ use Rattle.carrier_plan.specs.declared.plan.Plan.{Plan}
 use Rattle.carrier_plan.specs.declared.fault.PlanText as fault
 use Rattle.plan_checker.specs.Rules.{IsGood, IsFirstFailure}
 use Rattle.link_run.specs.declared.status.Status.{Status}
-use Rattle.link_run.specs.declared.status.Status.TheVariants.{Done, No, Usage, PlanText, FeedBad, ReadFault, WriteFault, NoMemory}
+use Rattle.link_run.specs.declared.status.Status.TheVariants.{Done, No, Usage, PlanText, FeedBad, ReadFault, WriteFault, NoMemory, Unbuilt}
 use Rattle.link_run.specs.Form.{Form, check}
 use Rattle.link_run.specs.Printed.{yes_text, no_text}
 use Rattle.link_run.specs.Answer.{IsVerdict, IsPlanAnswer, IsCheckAnswer}
@@ -41,6 +41,7 @@ completes form shelf shelf' sink sink' (FeedBad line reason) p told reads writes
 completes form shelf shelf' sink sink' ReadFault p told reads writes = absurd (reads (p.reads.rose refl))
 completes form shelf shelf' sink sink' WriteFault p told reads writes = absurd (writes (p.writes.rose refl))
 completes form shelf shelf' sink sink' NoMemory p told reads writes = inl refl
+completes form shelf shelf' sink sink' Unbuilt p told reads writes = inr (p.answers refl told)
 
 -- yes comes of a plan that meets the rules
 abbrev IsYes : Option (List ℕ) → List ℕ → Type 0
@@ -78,6 +79,7 @@ only_done p (FeedBad line reason) text good h = absurd h
 only_done p ReadFault text good h = absurd h
 only_done p WriteFault text good h = absurd h
 only_done p NoMemory text good h = absurd h
+only_done p Unbuilt text good h = absurd h
 
 only_from : (found : Option (List ℕ)) (octets text : List ℕ) (p : Plan) (status : Status) → found ≡ Some octets → plan_of octets ≡ Ok p → IsGood p → IsCheckAnswer found status text → status ≡ Done
 unfolding IsCheckAnswer

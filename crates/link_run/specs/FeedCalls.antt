@@ -7,16 +7,17 @@ use Rattle.link_text.specs.Lines.{lines_of, rest_of, longest}
 use Rattle.link_run.specs.declared.feed.Reading.{Reading}
 use Rattle.link_run.specs.declared.feed.Reading.TheVariants.{More, Last, Bad}
 use Rattle.link_run.specs.declared.status.Status.{Status}
-use Rattle.link_run.specs.declared.status.Status.TheVariants.{Done, No, Usage, PlanText, FeedBad, ReadFault, WriteFault, NoMemory}
+use Rattle.link_run.specs.declared.status.Status.TheVariants.{Done, No, Usage, PlanText, FeedBad, ReadFault, WriteFault, NoMemory, Unbuilt}
 use Rattle.link_run.specs.Gathered.{Gathers, BreaksOff}
 use Rattle.link_run.specs.Given.{IsGiven}
 use Rattle.link_run.specs.Feed.{Step, goes_on, ends, is_bad, LineForm, LeadTo, behind_last, IsRead, IsLastOrNone, FeedForm, IsFeedRead, IsFeedSettled, IsFeedFront}
 
--- A line was read as what it is, and the text that it settles was gathered.
-abbrev pub IsReadAs : {S : Type 0} → Step S → Reading → S → S → List ℕ → Taken → List ℕ → Taken → Type 0
-IsReadAs step More old new hand sink hand' sink' = (settled : List ℕ) × (step ≡ goes_on new settled) × Gathers settled hand sink hand' sink'
-IsReadAs step Last old new hand sink hand' sink' = (step ≡ ends) × (new ≡ old) × (hand' ≡ hand) × (sink' ≡ sink)
-IsReadAs step (Bad reason) old new hand sink hand' sink' = (step ≡ is_bad reason) × (hand' ≡ hand) × (sink' ≡ sink)
+-- A line was read, in state s, as what it is, and the text that it settles was gathered. What the feed keeps stands for
+-- the state after it.
+abbrev pub IsReadAs : {S : Type 0} → Step S → Reading → S → (S → Type 0) → List ℕ → Taken → List ℕ → Taken → Type 0
+IsReadAs {S} step More s stands hand sink hand' sink' = (next : S) × (settled : List ℕ) × (step ≡ goes_on next settled) × stands next × Gathers settled hand sink hand' sink'
+IsReadAs step Last s stands hand sink hand' sink' = (step ≡ ends) × stands s × (hand' ≡ hand) × (sink' ≡ sink)
+IsReadAs step (Bad reason) s stands hand sink hand' sink' = (step ≡ is_bad reason) × stands s × (hand' ≡ hand) × (sink' ≡ sink)
 
 -- The line was good, and its text could not be written whole.
 abbrev pub BreaksOffAt : {S : Type 0} → Step S → List ℕ → Taken → Taken → Type 0
@@ -106,6 +107,7 @@ is_feed_status (FeedBad line reason) = true
 is_feed_status ReadFault = true
 is_feed_status WriteFault = true
 is_feed_status NoMemory = false
+is_feed_status Unbuilt = false
 
 -- The count of the shelf's failures never falls, rose after a read fault, and stays but for that and a write fault.
 pub record FeedCounts (result : Status) (before now : ℕ) : Type 0 where

@@ -1,4 +1,5 @@
 pub mod Answer
+pub mod Capture
 pub mod Code
 pub mod CodeForm
 pub mod Events
@@ -8,7 +9,13 @@ pub mod Fields
 pub mod Form
 pub mod Gathered
 pub mod Given
+pub mod Judged
 pub mod PlanFile
+pub mod Played
+pub mod Plays
 pub mod Printed
 pub mod Promises
 pub mod Reasons
+pub mod Replay
+pub mod ReplayLaws
+pub mod Replaying

@@ -39,6 +39,8 @@ pub record FailsToFill (before : List ℕ) (old new : Shown) : Type 0 where
   pub chosen : new.chosen ≡ old.chosen
   pub failed : new.failed ≡ old.chosen
 
--- The first k octets of the buffer are those of the file of this name, as far as they are read.
-abbrev pub Loads : List ℕ → Files → ℕ → List ℕ → Type 0
-Loads name held k buffer = IsPlanFile name held (take k buffer)
+-- A read of the selected file failed, after no more octets than are read of a plan.
+pub record FailsToRead (old new : Shown) : Type 0 where
+  pub taken : length old.left ≤ length new.left + plan_limit
+  pub chosen : new.chosen ≡ old.chosen
+  pub failed : new.failed ≡ old.chosen

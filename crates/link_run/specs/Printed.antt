@@ -33,3 +33,7 @@ no_text rule item = codes "no " ++ decimal rule ++ codes " " ++ decimal item ++ 
 -- of a file that is no plan
 unfoldable pub fault_text : PlanText → List ℕ
 fault_text fault = ended (plan_text_line fault)
+
+-- of a plan that meets the rules, by which captures are not played so far
+unfoldable pub unbuilt_text : List ℕ
+unbuilt_text = ended (codes "unbuilt")

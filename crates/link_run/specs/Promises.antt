@@ -10,7 +10,7 @@ use Rattle.carrier_plan.specs.PlanOf.{plan_of}
 use Rattle.plan_checker.specs.Rules.{IsGood, IsFirstFailure}
 use Rattle.link_run.specs.declared.reason.Reason.{Reason}
 use Rattle.link_run.specs.declared.status.Status.{Status}
-use Rattle.link_run.specs.declared.status.Status.TheVariants.{Done, No, Usage, PlanText, FeedBad, ReadFault, WriteFault, NoMemory}
+use Rattle.link_run.specs.declared.status.Status.TheVariants.{Done, No, Usage, PlanText, FeedBad, ReadFault, WriteFault, NoMemory, Unbuilt}
 use Rattle.link_run.specs.Form.{Form, plan_names, feed_names, reached_names}
 use Rattle.link_run.specs.Answer.{IsAnswer, IsSettled, IsGoodFront}
 use Rattle.link_run.specs.Reasons.{bad_line}
@@ -26,6 +26,7 @@ is_answer (FeedBad line reason) = true
 is_answer ReadFault = false
 is_answer WriteFault = false
 is_answer NoMemory = false
+is_answer Unbuilt = true
 
 -- The whole text of an answer was written, and the status is that answer's.
 pub record Told (form : Option Form) (held : Files) (old new : Taken) (status : Status) : Type 0 where

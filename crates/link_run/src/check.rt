@@ -36,8 +36,8 @@ fn give_verdict<K: Sink>(alloc: Global, octets: &[u8], out: &mut K) -> Status
     }
 }
 
-// Writes the text of a verdict, and answers its status.
-fn give<K: Sink>(verdict: Verdict, out: &mut K) -> Status
+/// Writes the text of a verdict, and answers its status.
+pub fn give<K: Sink>(verdict: Verdict, out: &mut K) -> Status
     ensures { IsGiven verdict.status (string_bytes verdict.text) (K.taken out.old) (K.taken out.new) result }
 {
     match put_all(out, verdict.text.as_str().as_bytes()) {

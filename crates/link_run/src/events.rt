@@ -1,5 +1,5 @@
 // The feed of a start-up: a header with the caps of two ends, and a list of events.
-ghost use Rattle.std.specs.Prelude.{◌≡◌, ◌<◌, ◌≤◌, ◌+◌, ◌-◌, ◌++◌, ◌==◌, ◌∷◌, [], ℕ, length, codes, IfOk, IfErr, decimal as decimal_text, IfSome, IfNone, IsSome, Some, None, Ok, Err};
+ghost use Rattle.std.specs.Prelude.{◌≡◌, ◌<◌, ◌≤◌, ◌+◌, ◌-◌, ◌++◌, ◌==◌, ◌∷◌, [], ℕ, length, codes, IfOk, IfErr, OnErr, decimal as decimal_text, IfSome, IfNone, IsSome, Some, None, Ok, Err};
 ghost use Rattle.std.specs.Option.{option_map};
 ghost use Rattle.link_text.specs.Decimals.{decimal_value};
 ghost use Rattle.startup_machine.specs.Offers.{greatest_offer};
@@ -139,6 +139,7 @@ impl Events {
         ensures one_of_two { IfOk result (λ end. end < 2) }
         ensures few { IfOk result (λ _. (self.old.count < 65536) × (self.new.count ≡ self.old.count + 1)) }
         ensures err { IfErr result (λ reason. step_by self.old (event_of line.now) ≡ is_bad reason) }
+        ensures same { OnErr result (self.new ≡ self.old) }
     {
         let (end, event) = event_of(line)?;
         if self.count >= LIMIT {
@@ -165,7 +166,14 @@ impl Events {
 }
 
 impl Feed for Events {
+    ghost use Rattle.std.specs.Prelude.{◌≡◌};
+    ghost use Rattle.link_run.specs.declared.events.Events.{Events as Kept};
+
+    ghost State = { Kept };
+
     ghost form = { event_lines };
+
+    ghost stands = { λ w s. w ≡ s };
 
     ghost lines_left = { λ s. 65536 - s.count };
 

@@ -1,5 +1,5 @@
 // A feed: a file that is read, and answered, line by line.
-ghost use Rattle.std.specs.Prelude.{◌≡◌, ◌+◌, ◌^◌, ◌<◌, ◌≤◌, ◌++◌, ℕ, List, length, None, IsTrue, IfOk, OnOk, OnErr};
+ghost use Rattle.std.specs.Prelude.{◌≡◌, ◌≢◌, ◌+◌, ◌^◌, ◌<◌, ◌≤◌, ◌++◌, ℕ, List, length, None, IsTrue, IfOk, OnOk, OnErr};
 ghost use Rattle.link_base.specs.Faults.{HasCause};
 ghost use Rattle.link_base.specs.Shelf.{SameFiles};
 ghost use Rattle.link_run.specs.Reasons.{bad_line};
@@ -28,8 +28,14 @@ pub enum Reading {
 
 /// The lines of a feed behind its header, as far as they are read.
 pub trait Feed {
-    /// The form of the lines, over what the feed keeps of those that it read.
-    ghost form: { LineForm Self };
+    /// The states that the lines lead through. A state may have more than the feed keeps of it.
+    ghost State: { Type 0 };
+
+    /// The form of the lines.
+    ghost form: { LineForm State };
+
+    /// What the feed keeps is that of this state.
+    ghost stands: { Self → State → Type 0 };
 
     /// How many more lines may be good.
     ghost lines_left: { Self → ℕ };
@@ -44,15 +50,19 @@ pub trait Feed {
     ) -> Result<Reading, Failed>
         requires { length line.now ≤ 4096 }
         ensures cause { HasCause (K.taken out.old).faults (K.taken out.new).faults result }
-        ensures reads { IfOk result (λ reading. IsReadAs (form.line self.old line.now) reading self.old self.new text.old (K.taken out.old) text.new (K.taken out.new)) }
+        ensures reads { IfOk result (λ reading. (s : State) → stands self.old s
+            → IsReadAs (form.line s line.now) reading s (stands self.new) text.old (K.taken out.old) text.new (K.taken out.new)) }
         ensures fewer { IfOk result (λ reading. reading ≡ Reading.More → lines_left self.new < lines_left self.old) }
-        ensures fails { OnErr result (BreaksOffAt (form.line self.old line.now) text.old (K.taken out.old) (K.taken out.new)) };
+        ensures fails { OnErr result ((s : State) → stands self.old s
+            → BreaksOffAt (form.line s line.now) text.old (K.taken out.old) (K.taken out.new)) };
 
     /// Appends what is written once nothing follows the last line.
     fn close<K: Sink>(&mut self, text: &mut TextBuffer, out: &mut K) -> Result<(), Failed>
         ensures cause { HasCause (K.taken out.old).faults (K.taken out.new).faults result }
-        ensures closes { OnOk result (Gathers (form.closing self.old) text.old (K.taken out.old) text.new (K.taken out.new)) }
-        ensures fails { OnErr result (BreaksOff (form.closing self.old) text.old (K.taken out.old) (K.taken out.new)) };
+        ensures closes { OnOk result ((s : State) → stands self.old s
+            → Gathers (form.closing s) text.old (K.taken out.old) text.new (K.taken out.new)) }
+        ensures fails { OnErr result ((s : State) → stands self.old s
+            → BreaksOff (form.closing s) text.old (K.taken out.old) (K.taken out.new)) };
 }
 
 // Writes the text in hand, and then gives this status.
@@ -101,7 +111,11 @@ fn put_bad_line(number: u64, reason: Reason, text: &mut TextBuffer)
 
 // Writes the text in hand and what is written at the end of the feed.
 fn conclude<F: Feed, K: Sink>(feed: &mut F, text: &mut TextBuffer, out: &mut K) -> Status
-    ensures { IsGiven Status.Done (text.old ++ F.form.closing feed.old) (K.taken out.old) (K.taken out.new) result }
+    ensures writes { Counts (result ≡ Status.WriteFault) (K.taken out.old).faults (K.taken out.new).faults }
+    ensures answer { result ≢ Status.ReadFault }
+    ensures known { IsTrue (is_feed_status result) }
+    ensures given { (s : F.State) → F.stands feed.old s
+        → IsGiven Status.Done (text.old ++ F.form.closing s) (K.taken out.old) (K.taken out.new) result }
 {
     match feed.close(text, out) {
         Ok(()) => give(Status::Done, text, out),
@@ -124,7 +138,8 @@ fn finish<F: Feed, H: Shelf, K: Sink>(
     ensures reads { FeedCounts result (H.shown shelf.old).faults (H.shown shelf.new).faults }
     ensures known { IsTrue (is_feed_status result) }
     ensures writes { Counts (result ≡ Status.WriteFault) (K.taken out.old).faults (K.taken out.new).faults }
-    ensures finishes { IsTrue (H.shown shelf.old).tells → Finishes (number + 1) (reader.old.rest ++ (H.shown shelf.old).left) (F.form.closing feed.old) text.old (H.shown shelf.old) (H.shown shelf.new) (K.taken out.old) (K.taken out.new) result }
+    ensures finishes { (s : F.State) → F.stands feed.old s → IsTrue (H.shown shelf.old).tells
+        → Finishes (number + 1) (reader.old.rest ++ (H.shown shelf.old).left) (F.form.closing s) text.old (H.shown shelf.old) (H.shown shelf.new) (K.taken out.old) (K.taken out.new) result }
 {
     match reader.next(shelf) {
         Line::End => conclude(feed, text, out),
@@ -147,7 +162,8 @@ pub fn read_lines<F: Feed, H: Shelf, K: Sink>(
     ensures reads { FeedCounts result (H.shown shelf.old).faults (H.shown shelf.new).faults }
     ensures known { IsTrue (is_feed_status result) }
     ensures writes { Counts (result ≡ Status.WriteFault) (K.taken out.old).faults (K.taken out.new).faults }
-    ensures concludes { IsTrue (H.shown shelf.old).tells → Concludes F.form feed.old 2 (reader.old.rest ++ (H.shown shelf.old).left) text.old (H.shown shelf.old) (H.shown shelf.new) (K.taken out.old) (K.taken out.new) result }
+    ensures concludes { (s : F.State) → F.stands feed.old s → IsTrue (H.shown shelf.old).tells
+        → Concludes F.form s 2 (reader.old.rest ++ (H.shown shelf.old).left) text.old (H.shown shelf.old) (H.shown shelf.new) (K.taken out.old) (K.taken out.new) result }
 {
     let mut number = 1;
     loop {

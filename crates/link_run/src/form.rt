@@ -10,6 +10,8 @@ pub enum Form<'a> {
     Check { plan: &'a str },
     /// `startup EVENTS`
     Startup { events: &'a str },
+    /// `replay PLAN CAPTURE`
+    Replay { plan: &'a str, capture: &'a str },
 }
 
 /// The form of the words after the program's name, if they are of one.
@@ -22,6 +24,10 @@ pub fn form_of(words: &[String]) -> Option<Form<'_>>
         }),
         [word, events] if word.as_str() == "startup" => Some(Form::Startup {
             events: events.as_str(),
+        }),
+        [word, plan, capture] if word.as_str() == "replay" => Some(Form::Replay {
+            plan: plan.as_str(),
+            capture: capture.as_str(),
         }),
         _ => None,
     }

@@ -1,6 +1,7 @@
 //! `roe_link`: whether a plan of a CPRI link in Radio-over-Ethernet packets holds.
 #![tactic(auto)]
 
+mod capture;
 mod carriers_in_words;
 mod check;
 mod events;
@@ -10,7 +11,11 @@ mod flows_in_words;
 mod form;
 mod people;
 mod plan_file;
+mod playback;
+mod played;
 mod reason;
+mod replay;
+mod replay_form;
 mod rules_in_words;
 mod run;
 mod startup;

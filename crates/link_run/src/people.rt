@@ -22,15 +22,21 @@ pub fn explain(
         Status::Usage => {
             eprintln!(rt; "usage:")?;
             eprintln!(rt;
-                "  roe_link check PLAN        says whether a plan meets the rules, and how long samples take"
+                "  roe_link check PLAN             says whether a plan meets the rules, and how long samples take"
             )?;
             eprintln!(rt;
-                "  roe_link startup EVENTS    says what two ends of a link do over a list of start-up events"
+                "  roe_link replay PLAN CAPTURE    plays captured packets, and prints the samples that leave"
+            )?;
+            eprintln!(rt;
+                "  roe_link startup EVENTS         says what two ends of a link do over a list of start-up events"
             )
         }
+        Status::Unbuilt => eprintln!(rt;
+            "roe_link: the plan holds, but captures are played so far only by plans of option 1, mode bytes, method 1, k 1 and frames 1"
+        ),
         Status::No { rule, item } => explain_rule(rt, file_of(words), *rule, *item),
         Status::FeedBad { line, reason } => explain_line(rt, *line, *reason),
-        Status::ReadFault => explain_file(rt, file_of(words), shelf),
+        Status::ReadFault => explain_fault(rt, words, shelf),
         Status::WriteFault => eprintln!(rt; "roe_link: standard output could not be written"),
         Status::NoMemory => eprintln!(rt; "roe_link: out of memory"),
     }
@@ -41,7 +47,18 @@ fn file_of(words: &[String]) -> &str {
     match form_of(words) {
         Some(Form::Check { plan }) => plan,
         Some(Form::Startup { events }) => events,
+        Some(Form::Replay { plan, .. }) => plan,
         None => "a file",
+    }
+}
+
+// Which file could not be read, or which two may be the one.
+fn explain_fault(rt: &impl Eprint, words: &[String], shelf: &FileShelf<'_>) -> io::Result<()> {
+    match (form_of(words), shelf.error()) {
+        (Some(Form::Replay { plan, capture }), Some(error)) => {
+            eprintln!(rt; "roe_link: {plan} or {capture}: {error}")
+        }
+        _ => explain_file(rt, file_of(words), shelf),
     }
 }
 

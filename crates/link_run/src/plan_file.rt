@@ -1,9 +1,9 @@
 // Reads the file of a plan.
-ghost use Rattle.std.specs.Prelude.{◌≡◌, ◌≤◌, length, IsTrue, IfOk, OnErr, IsErrOf};
+ghost use Rattle.std.specs.Prelude.{◌≡◌, ◌≤◌, length, take, IsTrue, Some, IfOk, OnErr, IsErrOf};
 ghost use Rattle.link_base.specs.Faults.{HasCause};
 ghost use Rattle.link_base.specs.Shelf.{SameFiles};
 ghost use Rattle.link_run.specs.Promises.{Counts};
-ghost use Rattle.link_run.specs.PlanFile.{plan_limit, Loads, IsPlanFile, FailsAtFile, Fills, FailsToFill};
+ghost use Rattle.link_run.specs.PlanFile.{plan_limit, IsPlanFile, FailsAtFile, FailsToRead, Fills, FailsToFill};
 ghost use Rattle.link_run.specs.declared.plan_file.FileError.TheVariants.{Memory};
 
 use link_base::{Failed, Shelf};
@@ -46,22 +46,25 @@ fn fill<H: Shelf>(shelf: &mut H, buf: &mut [u8]) -> Result<usize, Failed>
     Ok(done)
 }
 
-// Selects a file and reads its first octets into the buffer, and answers how many.
-fn load<H: Shelf>(shelf: &mut H, name: &str, buf: &mut [u8]) -> Result<usize, Failed>
-    requires { length buf.old ≡ plan_limit }
-    ensures cause { HasCause (H.shown shelf.old).faults (H.shown shelf.new).faults result }
+// Reads the selected file, up to its first 65,537 octets.
+fn read_selected<H: Shelf>(alloc: Global, shelf: &mut H) -> Result<Vec<u8>, FileError>
     ensures files { SameFiles (H.shown shelf.old) (H.shown shelf.new) }
-    ensures fits { IfOk result (λ k. k ≤ length buf.old) }
-    ensures loads { IsTrue (H.shown shelf.old).tells → IfOk result (λ k. Loads name.now (H.shown shelf.old).held k buf.new) }
-    ensures fails { IsTrue (H.shown shelf.old).tells → OnErr result (FailsAtFile name.now (H.shown shelf.old) (H.shown shelf.new)) }
+    ensures reads { Counts (IsErrOf result FileError.Fault) (H.shown shelf.old).faults (H.shown shelf.new).faults }
+    ensures octets { IsTrue (H.shown shelf.old).tells → IfOk result (λ octets. octets.items ≡ take plan_limit (H.shown shelf.old).left) }
+    ensures chosen { IsTrue (H.shown shelf.old).tells → (H.shown shelf.new).chosen ≡ (H.shown shelf.old).chosen }
+    ensures fault { IsTrue (H.shown shelf.old).tells → IsErrOf result FileError.Fault → FailsToRead (H.shown shelf.old) (H.shown shelf.new) }
 {
-    if let Err(failed) = shelf.select(name) {
-        return Err(failed);
+    let mut octets = vec![in alloc; 0u8; PLAN_LIMIT]?;
+    match fill(shelf, octets.as_mut_slice()) {
+        Ok(count) => {
+            octets.truncate(count);
+            Ok(octets)
+        }
+        Err(Failed) => Err(FileError::Fault),
     }
-    fill(shelf, buf)
 }
 
-/// Reads a file, up to its first 65,537 octets.
+/// Selects a file and reads it, up to its first 65,537 octets.
 pub fn read_plan_file<H: Shelf>(
     alloc: Global,
     shelf: &mut H,
@@ -70,14 +73,11 @@ pub fn read_plan_file<H: Shelf>(
     ensures files { SameFiles (H.shown shelf.old) (H.shown shelf.new) }
     ensures reads { Counts (IsErrOf result FileError.Fault) (H.shown shelf.old).faults (H.shown shelf.new).faults }
     ensures octets { IsTrue (H.shown shelf.old).tells → IfOk result (λ octets. IsPlanFile name.now (H.shown shelf.old).held octets.items) }
+    ensures chosen { IsTrue (H.shown shelf.old).tells → ¬ IsErrOf result FileError.Fault → (H.shown shelf.new).chosen ≡ Some name.now }
     ensures fault { IsTrue (H.shown shelf.old).tells → IsErrOf result FileError.Fault → FailsAtFile name.now (H.shown shelf.old) (H.shown shelf.new) }
 {
-    let mut octets = vec![in alloc; 0u8; PLAN_LIMIT]?;
-    match load(shelf, name, octets.as_mut_slice()) {
-        Ok(count) => {
-            octets.truncate(count);
-            Ok(octets)
-        }
+    match shelf.select(name) {
+        Ok(()) => read_selected(alloc, shelf),
         Err(Failed) => Err(FileError::Fault),
     }
 }

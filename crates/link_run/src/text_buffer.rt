@@ -1,10 +1,12 @@
 // Text on its way to a sink.
 ghost use Rattle.std.specs.Prelude.{◌≡◌, ◌+◌, ◌^◌, ◌<◌, ◌≤◌, ◌++◌, [], length, decimal, OnOk};
+ghost use Rattle.std.specs.Fmt.{signed_decimal};
 ghost use Rattle.link_base.specs.Faults.{HasCause};
 ghost use Rattle.link_base.specs.Sink.{Appends, AppendsFront};
 ghost use Rattle.link_run.specs.Gathered.{Gathers};
 
 use arrayvec::ArrayVec;
+use itoa::Buffer;
 use link_base::{Failed, Sink, put_all};
 use std::marker::Model;
 
@@ -74,10 +76,20 @@ impl TextBuffer {
     /// Appends a number as a canonical decimal.
     pub fn put_number(&mut self, n: u64)
         requires room { length self.old + 20 ≤ 4096 }
-        requires fits { n < 2 ^ 63 }
         ensures text { self.new ≡ self.old ++ decimal n }
         ensures short { length self.new ≤ length self.old + 20 }
     {
-        link_text::put_number(&mut self.octets, n as i64);
+        let mut buffer = Buffer::new();
+        self.put(buffer.format(n).as_bytes());
+    }
+
+    /// Appends a number that may be below 0, as a canonical decimal with its sign.
+    pub fn put_signed(&mut self, z: i32)
+        requires room { length self.old + 11 ≤ 4096 }
+        ensures text { self.new ≡ self.old ++ signed_decimal z }
+        ensures short { length self.new ≤ length self.old + 11 }
+    {
+        let mut buffer = Buffer::new();
+        self.put(buffer.format(z).as_bytes());
     }
 }

@@ -68,9 +68,9 @@ fn yes(alloc: Global, checked: &Checked) -> Result<String, AllocError>
     Ok(text)
 }
 
-// The first failure.
+/// The first failure.
 #[tactic(auto, unfolding(crate::specs::Printed::no_text))]
-fn no(alloc: Global, rule: u32, item: u32) -> Result<String, AllocError>
+pub fn no(alloc: Global, rule: u32, item: u32) -> Result<String, AllocError>
     ensures { IfOk result (λ text. string_bytes text ≡ no_text rule item) }
 {
     let mut text = String::new(alloc);
@@ -78,9 +78,9 @@ fn no(alloc: Global, rule: u32, item: u32) -> Result<String, AllocError>
     Ok(text)
 }
 
-// The line that tells of a fault in the text.
+/// The line that tells of a fault in the text.
 #[tactic(auto, unfolding(crate::specs::Printed::fault_text))]
-fn fault_line(alloc: Global, fault: PlanText) -> Result<String, AllocError>
+pub fn fault_line(alloc: Global, fault: PlanText) -> Result<String, AllocError>
     ensures { IfOk result (λ text. string_bytes text ≡ fault_text fault) }
 {
     let mut text = String::new(alloc);

@@ -14,8 +14,9 @@ invariant-loop-line g l =
       reads : (shown l.shelf).faults ≡ (shown l.initial.shelf).faults;
       writes : (taken l.out).faults ≡ (taken l.initial.out).faults;
       few : l.number + left l.feed ≤ 1 + left l.initial.feed;
-      so_far : IsTrue (shown l.initial.shelf).tells → ReadSoFar g.F.Feed.form l.initial.feed 1 l.initial.reader l.initial.text (shown l.initial.shelf) (taken l.initial.out)
-          l.number l.feed l.reader l.text (shown l.shelf) (taken l.out);
+      so_far : (s0 : g.F.Feed.State) → g.F.Feed.stands l.initial.feed s0 → IsTrue (shown l.initial.shelf).tells
+          → (s : g.F.Feed.State) × g.F.Feed.stands l.feed s
+          × ReadSoFar g.F.Feed.form s0 1 l.initial.reader l.initial.text (shown l.initial.shelf) (taken l.initial.out) l.number s l.reader l.text (shown l.shelf) (taken l.out);
     }
 
 abbrev pub decreases-loop-line : goal.decreases-loop-line

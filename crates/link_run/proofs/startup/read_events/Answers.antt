@@ -64,7 +64,7 @@ returns-in-Ok-begin-clause-gives g c = λ told other.
     let fresh = ap (λ (r : Reading). r.ended) c.in-Ok.ensures in
     let line = gives_line c.in-Ok.reader c.next.follows.lender-at-none before mid c.next.result c.in-Text.line fresh c.next.follows.holds-at-none c.in-Text.is in
     let later = subst IsTrue (sym c.in-Text.ensures.files.tells) told in
-    let concludes = rw c.new-text.ensures at (rw c.in-Ok-begin.ensures at (c.read_lines.ensures.concludes later)) in
+    let concludes = rw c.new-text.ensures at (c.read_lines.ensures.concludes _ c.in-Ok-begin.ensures later) in
     feed_concludes events_form _ [] c.in-Text.line.now c.in-Ok.reader c.next.follows.lender-at-none before mid after sink sink' c.read_lines.result
     line (ap (λ (r : Reading). r.rest) c.in-Ok.ensures) told (c.in-Text.ensures.chosen told) (ap begun_with c.in-Some.ensures.some) concludes
 
