@@ -1,6 +1,6 @@
 -- The promise of a form that reads a feed, from what reading it leaves.
-use Rattle.std.proofs.Common.{IsTrue, ◌≡◌, ◌≢◌, ◌≤◌, ◌⊎◌, inl, inr, ◌++◌, ◌∷◌, [], ℕ, List, true, false, length, take, arith, refl, sym, ap, subst, ◌∙◌, Option, Some, None, append-nil, length-append}
-use Rattle.std.specs.Prelude.{Contains, is_some}
+use Rattle.std.proofs.Common.{IsTrue, ◌≡◌, ◌≢◌, ◌≤◌, ◌⊎◌, inl, inr, ◌++◌, ◌∷◌, [], ℕ, List, true, false, length, arith, refl, sym, ap, subst, ◌∙◌, Option, Some, None}
+use Rattle.std.specs.Prelude.{Contains}
 use Rattle.std.specs.FinMap.{get}
 use Rattle.std.proofs.Math.Seq.{take-length}
 use Rattle.std.proofs.lemmas.List.{append_cancel_right}
@@ -12,12 +12,11 @@ use Rattle.link_run.specs.declared.reason.Reason.{Reason}
 use Rattle.link_run.specs.declared.status.Status.{Status}
 use Rattle.link_run.specs.declared.status.Status.TheVariants.{Usage, FeedBad, ReadFault, WriteFault, NoMemory}
 use Rattle.link_run.specs.Form.{Form, feed_names, reached_names}
-use Rattle.link_run.specs.Reasons.{bad_line}
 use Rattle.link_run.specs.Feed.{FeedForm, IsFeedRead, IsFeedSettled, IsFeedFront}
 use Rattle.link_run.specs.Answer.{IsAnswer, IsSettled, IsGoodFront}
-use Rattle.link_run.specs.Given.{IsGiven, IsWhole, IsCut}
+use Rattle.link_run.specs.Given.{IsGiven}
 use Rattle.link_run.specs.FeedCalls.{FeedGiven, FeedStopped, FeedWants, FeedCounts}
-use Rattle.link_run.specs.Promises.{Promises, Counts, CountsReads, is_answer, Told, CutShort, StandsAt, LeavesSettled, LeavesNothing, LeavesBadLine, IsTakenFeed, IsLast, IsReached}
+use Rattle.link_run.specs.Promises.{Promises, Counts, is_answer, Told, CutShort, StandsAt, LeavesSettled, LeavesNothing, LeavesBadLine, IsLast, IsReached}
 use Rattle.link_run.proofs.Filling.{files_stay}
 use Rattle.link_run.proofs.Loading.{counted_ok, reads_failed, select_fails}
 use Rattle.link_run.proofs.Gathering.{appends_none, front_of_more}

@@ -4,7 +4,7 @@ use Rattle.std.specs.Prelude.{is_some, if◌then◌else◌}
 use Rattle.std.specs.FinMap.{get}
 use Rattle.std.proofs.lemmas.Bool.{cases_lt}
 use Rattle.std.proofs.lemmas.List.{drop_all, take_at, take_all, take-append-drop, length-take-le}
-use Rattle.link_base.specs.Shelf.{Files, Shown, Opens, FailsToOpen}
+use Rattle.link_base.specs.Shelf.{Shown, Opens, FailsToOpen}
 use Rattle.link_base.specs.Faults.{Rose}
 use Rattle.link_run.specs.Promises.{Counts, CountsReads}
 use Rattle.link_run.specs.declared.status.Status.{Status}

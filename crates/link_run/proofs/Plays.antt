@@ -1,36 +1,34 @@
 -- The promise of `replay`, from what each of its steps leaves.
-use Rattle.std.proofs.Common.{IsTrue, ◌≡◌, ◌≢◌, ◌≤◌, ◌⊎◌, inl, inr, ◌∷◌, [], ℕ, zero, suc, List, true, false, length, take, arith, refl, sym, ap, subst, ◌∙◌, Option, Some, None, Result, Ok, Err, cond, ◌&&◌}
+use Rattle.std.proofs.Common.{IsTrue, ◌≡◌, ◌≢◌, ◌≤◌, ◌⊎◌, inl, inr, ◌∷◌, [], ℕ, List, true, arith, refl, sym, ap, subst, ◌∙◌, Option, Some, None, Result, Ok, Err, cond}
 use Rattle.std.specs.Prelude.{Contains}
 use Rattle.std.specs.FinMap.{get}
 use Rattle.std.proofs.lemmas.Bool.{and_from}
 use Rattle.std.proofs.lemmas.Option.{same_Some}
 use Rattle.link_base.specs.Faults.{Rose}
 use Rattle.link_base.specs.Shelf.{Files, Shown, SameFiles, Opens, FailsToOpen, held_name}
-use Rattle.link_base.specs.Sink.{Taken, Appends}
+use Rattle.link_base.specs.Sink.{Taken}
 use Rattle.carrier_plan.specs.PlanOf.{plan_of}
 use Rattle.carrier_plan.specs.declared.plan.Plan.{Plan}
 use Rattle.carrier_plan.specs.declared.fault.PlanText as fault
 use Rattle.plan_checker.specs.Verdict.{verdict_of}
-use Rattle.plan_checker.specs.Verdict.Verdict.{Good, Fails}
-use Rattle.link_receiver.specs.Simple.{IsSimple, is_simple}
+use Rattle.link_receiver.specs.Simple.{is_simple}
 use Rattle.link_receiver.proofs.Simplicity.{Decides-is_simple}
 use Rattle.link_run.specs.declared.reason.Reason.{Reason}
 use Rattle.link_run.specs.declared.status.Status.{Status}
-use Rattle.link_run.specs.declared.status.Status.TheVariants.{Done, No, Usage, PlanText, FeedBad, ReadFault, WriteFault, NoMemory, Unbuilt}
+use Rattle.link_run.specs.declared.status.Status.TheVariants.{Usage, FeedBad, ReadFault, WriteFault, NoMemory}
 use Rattle.link_run.specs.Answer.{IsRefusal, IsReplayed, IsReplayAnswer, IsReplaySettled, IsReplayFront, IsAnswerOf, Plays}
-use Rattle.link_run.specs.Feed.{IsFeedRead}
 use Rattle.link_run.specs.FeedCalls.{FeedCounts, FeedGiven, FeedWants}
-use Rattle.link_run.specs.Form.{replay, replay_names, reached_names}
-use Rattle.link_run.specs.Given.{IsGiven, IsWhole, IsCut}
+use Rattle.link_run.specs.Form.{replay, replay_names}
+use Rattle.link_run.specs.Given.{IsGiven}
 use Rattle.link_run.specs.Judged.{IsPlayable}
-use Rattle.link_run.specs.PlanFile.{plan_limit, IsPlanFile, FailsAtFile}
+use Rattle.link_run.specs.PlanFile.{IsPlanFile, FailsAtFile}
 use Rattle.link_run.specs.Played.{is_good, is_played, if_played, plan_played}
 use Rattle.link_run.specs.Promises.{Promises, Counts, is_answer, IsReached, IsLast, IsTakenFeed}
 use Rattle.link_run.specs.Replay.{replay_form}
 use Rattle.link_run.proofs.Checking.{keeps, the_one, in_one, plan_of_front, after_whole, after_cut}
 use Rattle.link_run.proofs.Feeding.{IsFeedFile, IsFeedOf, feed_promises, select_promises}
 use Rattle.link_run.proofs.Filling.{files_stay}
-use Rattle.link_run.proofs.Loading.{counted_ok, counted_err, reads_stay, reads_failed}
+use Rattle.link_run.proofs.Loading.{counted_ok, reads_stay, reads_failed}
 
 -- ---- which plans are played
 

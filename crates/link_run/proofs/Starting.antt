@@ -1,5 +1,5 @@
 -- What the feed of `startup` is to it.
-use Rattle.std.proofs.Common.{◌≡◌, ℕ, List, [], ◌∷◌, Option, Some, refl, sym, subst, arith}
+use Rattle.std.proofs.Common.{◌≡◌, ℕ, List, [], Option, Some, refl, sym, subst}
 use Rattle.std.specs.FinMap.{get}
 use Rattle.link_base.specs.Shelf.{Files}
 use Rattle.link_run.specs.declared.status.Status.{Status}

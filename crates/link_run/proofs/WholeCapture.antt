@@ -1,5 +1,5 @@
 -- A replay that is done has printed what all records of its capture give.
-use Rattle.std.proofs.Common.{IsTrue, ◌≡◌, ◌≢◌, ◌∙◌, ◌+◌, ◌≤◌, ◌<◌, ◌⊎◌, inl, inr, ◌++◌, ◌∷◌, [], ℕ, List, map, length, Bool, true, false, Option, Some, None, Result, Ok, Err, sym, ap, subst, refl, append_assoc, append-nil, cond}
+use Rattle.std.proofs.Common.{IsTrue, ◌≡◌, ◌≢◌, ◌∙◌, ◌+◌, inl, inr, ◌++◌, ◌∷◌, [], ℕ, List, map, length, Bool, true, false, Option, Some, None, Result, Ok, Err, sym, ap, subst, refl, append_assoc, append-nil}
 use Rattle.std.specs.Prelude.{codes, bytes_eq, nat_le, nat_lt, if◌then◌else◌}
 use Rattle.std.specs.FinMap.{get}
 use Rattle.std.proofs.lemmas.Slice.Eq.{bytes_eq-Decides}
@@ -17,14 +17,14 @@ use Rattle.link_run_delay.proofs.PlainPlans.{IsPlain-plan_of}
 use Rattle.link_run.specs.declared.reason.Reason.{Reason}
 use Rattle.link_run.specs.declared.reason.Reason.TheVariants.{Long, Order, Many, After}
 use Rattle.link_run.specs.declared.status.Status.{Status}
-use Rattle.link_run.specs.declared.status.Status.TheVariants.{Done, FeedBad}
-use Rattle.link_run.specs.Answer.{IsRefusal, IsPlay, IsReplayed, IsReplayAnswer, IsAnswerOf, Plays}
+use Rattle.link_run.specs.declared.status.Status.TheVariants.{Done}
+use Rattle.link_run.specs.Answer.{IsRefusal, IsPlay, IsReplayed, IsReplayAnswer, IsAnswerOf}
 use Rattle.link_run.specs.Capture.{most_records, capture_frames, record_of}
-use Rattle.link_run.specs.Feed.{Step, goes_on, ends, is_bad, LeadTo, step_at, Ending, bad_at, ends_within, behind_last, ending_at, ending_by, IsRead, by_header, first_step, IsReadFrom, IsReadOf, IsFeedRead}
+use Rattle.link_run.specs.Feed.{Step, goes_on, ends, is_bad, LeadTo, step_at, Ending, bad_at, ends_within, behind_last, ending_at, ending_by, IsRead, by_header, IsReadFrom, IsReadOf}
 use Rattle.link_run.specs.Form.{Form, replay}
 use Rattle.link_run.specs.Plays.{IsCapture, replay_text, ReplaysCapture}
-use Rattle.link_run.specs.Promises.{Promises, Told, is_answer}
-use Rattle.link_run.specs.Replay.{Replayed, begun, begun_if, with_record, text_below, replay_by, replay_step, replay_lines, replay_closing, replay_form}
+use Rattle.link_run.specs.Promises.{Promises, is_answer}
+use Rattle.link_run.specs.Replay.{Replayed, begun, begun_if, with_record, text_below, replay_by, replay_lines, replay_closing, replay_form}
 use Rattle.link_run.proofs.ReplayWhole.{TextIsWhole-holds}
 
 if_goes : (b : Bool) (reason : Reason) (step : Step Replayed) (next : Replayed) (settled : List ℕ) → (if b then is_bad reason else step) ≡ goes_on next settled → step ≡ goes_on next settled

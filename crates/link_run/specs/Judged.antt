@@ -1,5 +1,5 @@
 -- What the octets of a plan's file are judged to be, where a capture is to be played. This is the project's own.
-use Rattle.std.specs.Prelude.{◌≡◌, List, Result, Ok, string_bytes}
+use Rattle.std.specs.Prelude.{◌≡◌, Result, Ok, string_bytes}
 use Rattle.carrier_plan.specs.declared.plan.Plan.{Plan}
 use Rattle.carrier_plan.specs.declared.fault.PlanText as fault
 use Rattle.plan_checker.specs.Rules.{IsGood}

@@ -1,4 +1,4 @@
-use Rattle.std.proofs.Common.{◌≡◌, ◌∙◌, ap, refl, sym, subst, length, take, List, ℕ, IsTrue}
+use Rattle.std.proofs.Common.{◌≡◌, ◌∙◌, refl, sym, subst, take, IsTrue}
 use Rattle.std.proofs.lemmas.Result.{IfOk-weaker}
 use Rattle.link_run.specs.PlanFile.{plan_limit, IsPlanFile}
 use Rattle.link_run.proofs.Loading.{plan_file_read, read_fails, select_fails, counted_then, counted_err}

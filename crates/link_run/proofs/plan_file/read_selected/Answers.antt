@@ -1,4 +1,4 @@
-use Rattle.std.proofs.Common.{◌∙◌, ap, refl, sym, length, IsTrue, arith}
+use Rattle.std.proofs.Common.{◌∙◌, ap, refl, sym, length, arith}
 use Rattle.link_run.proofs.Loading.{cut_to, front_read, counted_ok, counted_err}
 use Rattle.link_run.proofs.plan_file.read_selected.Goals as goal
 

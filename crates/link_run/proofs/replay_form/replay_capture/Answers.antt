@@ -1,4 +1,4 @@
-use Rattle.std.proofs.Common.{refl, sym, subst, IsTrue}
+use Rattle.std.proofs.Common.{refl, sym, subst}
 use Rattle.std.specs.Prelude.{string_bytes}
 use Rattle.link_run.specs.PlanFile.{IsPlanFile}
 use Rattle.link_run.proofs.Plays.{replay_fault, replay_memory, replay_given, capture_fault, capture_read}
