@@ -1,6 +1,6 @@
 //! Each call of an end, in the states where it does something and where it does nothing.
 use crate::{Caps, End, Offer, State};
-use control_words::Announce;
+use Call::{Announce, Heard, Reset, Silence, Start, VendorAgreed};
 use std::process::Abort;
 
 /// A call of an end.
@@ -20,7 +20,7 @@ fn hear(rt: &impl Abort, end: &mut End, version: u8, hdlc: u8, pointer: u8) {
     assert!(rt; hdlc <= 6);
     assert!(rt; pointer == 0 || pointer >= 20);
     assert!(rt; pointer <= 63);
-    end.heard(Announce {
+    end.heard(control_words::Announce {
         version,
         hdlc,
         pointer,
@@ -64,7 +64,7 @@ fn announcements_of_an_end(rt: HostRuntime) {
     let mut end = new_end();
     assert_eq!(rt; end.announce(), None);
     end.start();
-    let first = Announce {
+    let first = control_words::Announce {
         version: 1,
         hdlc: 3,
         pointer: 20,
@@ -73,170 +73,181 @@ fn announcements_of_an_end(rt: HostRuntime) {
     assert_eq!(rt; end.announce(), Some(first));
 }
 
+/// Calls, and the state and the offer of an end after them.
+type Row = (&'static [Call], State, u8, u8);
+
+// What an end of these caps hears: the offer of the far end, the offer on which both meet, its own offer, no channel at
+// all, HDLC alone, and the pointer alone.
+const FAR: Call = Heard(1, 5, 40);
+
+const MET: Call = Heard(1, 3, 40);
+
+const SAME: Call = Heard(1, 3, 20);
+
+const NONE: Call = Heard(1, 0, 0);
+
+const SLOW: Call = Heard(1, 3, 0);
+
+const FAST: Call = Heard(1, 0, 40);
+
+/// In the states A to D.
+const BEFORE: [Row; 18] = [
+    (&[], State::A, 3, 20),
+    (
+        &[FAR, Announce, VendorAgreed, Silence, Reset],
+        State::A,
+        3,
+        20,
+    ),
+    (&[Start], State::B, 3, 20),
+    (&[Start, Start, VendorAgreed], State::B, 3, 20),
+    (&[Start, FAR], State::C, 3, 20),
+    (&[Start, Heard(2, 5, 40)], State::C, 3, 20),
+    (&[Start, FAR, Start, VendorAgreed], State::C, 3, 20),
+    (&[Start, FAR, Heard(2, 5, 40)], State::C, 3, 20),
+    (&[Start, FAR, FAR], State::D, 3, 40),
+    (&[Start, FAR, FAR, Start, VendorAgreed], State::D, 3, 40),
+    (&[Start, FAR, FAR, MET], State::D, 3, 40),
+    (&[Start, FAR, FAR, Announce, FAR], State::D, 3, 40),
+    (
+        &[Start, FAR, FAR, Announce, Heard(1, 2, 40)],
+        State::D,
+        2,
+        40,
+    ),
+    (
+        &[Start, FAR, FAR, Announce, Heard(1, 2, 40), Heard(1, 2, 40)],
+        State::D,
+        2,
+        40,
+    ),
+    (&[Start, FAR, FAR, Heard(1, 6, 0)], State::D, 3, 0),
+    (&[Start, FAR, FAR, Heard(2, 3, 40)], State::C, 3, 40),
+    (&[Start, FAR, FAR, Silence], State::B, 3, 20),
+    (&[Start, FAR, FAR, Reset], State::A, 3, 20),
+];
+
 #[test]
 fn calls_before_the_channels_are_set_up(rt: HostRuntime) {
-    use Call::{Announce, Heard, Reset, Silence, Start, VendorAgreed};
-    let (far, met) = (Heard(1, 5, 40), Heard(1, 3, 40));
-    let rows: [(&[Call], State, u8, u8); 18] = [
-        (&[], State::A, 3, 20),
-        (
-            &[far, Announce, VendorAgreed, Silence, Reset],
-            State::A,
-            3,
-            20,
-        ),
-        (&[Start], State::B, 3, 20),
-        (&[Start, Start, VendorAgreed], State::B, 3, 20),
-        (&[Start, far], State::C, 3, 20),
-        (&[Start, Heard(2, 5, 40)], State::C, 3, 20),
-        (&[Start, far, Start, VendorAgreed], State::C, 3, 20),
-        (&[Start, far, Heard(2, 5, 40)], State::C, 3, 20),
-        (&[Start, far, far], State::D, 3, 40),
-        (&[Start, far, far, Start, VendorAgreed], State::D, 3, 40),
-        (&[Start, far, far, met], State::D, 3, 40),
-        (&[Start, far, far, Announce, far], State::D, 3, 40),
-        (
-            &[Start, far, far, Announce, Heard(1, 2, 40)],
-            State::D,
-            2,
-            40,
-        ),
-        (
-            &[Start, far, far, Announce, Heard(1, 2, 40), Heard(1, 2, 40)],
-            State::D,
-            2,
-            40,
-        ),
-        (&[Start, far, far, Heard(1, 6, 0)], State::D, 3, 0),
-        (&[Start, far, far, Heard(2, 3, 40)], State::C, 3, 40),
-        (&[Start, far, far, Silence], State::B, 3, 20),
-        (&[Start, far, far, Reset], State::A, 3, 20),
-    ];
-    for (calls, state, hdlc, pointer) in &rows {
+    for (calls, state, hdlc, pointer) in &BEFORE {
         compare(&rt, calls, *state, *hdlc, *pointer);
     }
 }
 
+/// In the states E to G, and out of them.
+const SET_UP: [Row; 20] = [
+    (&[Start, FAR, FAR, Announce, MET], State::E, 3, 40),
+    (&[Start, FAR, FAR, Announce, FAR, MET], State::E, 3, 40),
+    (&[Start, Announce, SAME, SAME, SAME], State::E, 3, 20),
+    (&[Start, FAR, SLOW, Announce, SLOW], State::E, 3, 0),
+    (&[Start, FAR, FAST, Announce, FAST], State::E, 0, 40),
+    (
+        &[Start, FAR, FAR, Announce, MET, MET, Start],
+        State::E,
+        3,
+        40,
+    ),
+    (&[Start, FAR, FAR, Announce, MET, FAR], State::D, 3, 40),
+    (
+        &[Start, FAR, FAR, Announce, MET, Heard(1, 2, 50)],
+        State::D,
+        2,
+        50,
+    ),
+    (
+        &[Start, FAR, FAR, Announce, MET, Heard(2, 3, 40)],
+        State::C,
+        3,
+        40,
+    ),
+    (
+        &[Start, FAR, FAR, Announce, MET, Silence, SAME, SAME, SAME],
+        State::D,
+        3,
+        20,
+    ),
+    (
+        &[
+            Start, FAR, FAR, Announce, MET, Reset, Start, SAME, SAME, SAME,
+        ],
+        State::D,
+        3,
+        20,
+    ),
+    (
+        &[Start, FAR, FAR, Announce, MET, VendorAgreed],
+        State::F,
+        3,
+        40,
+    ),
+    (
+        &[
+            Start,
+            FAR,
+            FAR,
+            Announce,
+            MET,
+            VendorAgreed,
+            MET,
+            VendorAgreed,
+        ],
+        State::F,
+        3,
+        40,
+    ),
+    (
+        &[
+            Start,
+            FAR,
+            FAR,
+            Announce,
+            MET,
+            VendorAgreed,
+            Heard(1, 2, 50),
+        ],
+        State::D,
+        2,
+        50,
+    ),
+    (
+        &[
+            Start,
+            FAR,
+            FAR,
+            Announce,
+            MET,
+            VendorAgreed,
+            Heard(0, 3, 40),
+        ],
+        State::C,
+        3,
+        40,
+    ),
+    (
+        &[Start, FAR, FAR, Announce, MET, VendorAgreed, Silence],
+        State::B,
+        3,
+        20,
+    ),
+    (&[Start, FAR, NONE, Announce, NONE], State::G, 0, 0),
+    (
+        &[Start, FAR, NONE, Announce, NONE, NONE, VendorAgreed],
+        State::G,
+        0,
+        0,
+    ),
+    (&[Start, FAR, NONE, Announce, NONE, SAME], State::D, 0, 0),
+    (
+        &[Start, FAR, NONE, Announce, NONE, Heard(2, 0, 0)],
+        State::C,
+        0,
+        0,
+    ),
+];
+
 #[test]
 fn calls_when_the_channels_are_set_up(rt: HostRuntime) {
-    use Call::{Announce, Heard, Reset, Silence, Start, VendorAgreed};
-    let (far, met, same, none) = (
-        Heard(1, 5, 40),
-        Heard(1, 3, 40),
-        Heard(1, 3, 20),
-        Heard(1, 0, 0),
-    );
-    let (slow, fast) = (Heard(1, 3, 0), Heard(1, 0, 40));
-    let rows: [(&[Call], State, u8, u8); 20] = [
-        (&[Start, far, far, Announce, met], State::E, 3, 40),
-        (&[Start, far, far, Announce, far, met], State::E, 3, 40),
-        (&[Start, Announce, same, same, same], State::E, 3, 20),
-        (&[Start, far, slow, Announce, slow], State::E, 3, 0),
-        (&[Start, far, fast, Announce, fast], State::E, 0, 40),
-        (
-            &[Start, far, far, Announce, met, met, Start],
-            State::E,
-            3,
-            40,
-        ),
-        (&[Start, far, far, Announce, met, far], State::D, 3, 40),
-        (
-            &[Start, far, far, Announce, met, Heard(1, 2, 50)],
-            State::D,
-            2,
-            50,
-        ),
-        (
-            &[Start, far, far, Announce, met, Heard(2, 3, 40)],
-            State::C,
-            3,
-            40,
-        ),
-        (
-            &[Start, far, far, Announce, met, Silence, same, same, same],
-            State::D,
-            3,
-            20,
-        ),
-        (
-            &[
-                Start, far, far, Announce, met, Reset, Start, same, same, same,
-            ],
-            State::D,
-            3,
-            20,
-        ),
-        (
-            &[Start, far, far, Announce, met, VendorAgreed],
-            State::F,
-            3,
-            40,
-        ),
-        (
-            &[
-                Start,
-                far,
-                far,
-                Announce,
-                met,
-                VendorAgreed,
-                met,
-                VendorAgreed,
-            ],
-            State::F,
-            3,
-            40,
-        ),
-        (
-            &[
-                Start,
-                far,
-                far,
-                Announce,
-                met,
-                VendorAgreed,
-                Heard(1, 2, 50),
-            ],
-            State::D,
-            2,
-            50,
-        ),
-        (
-            &[
-                Start,
-                far,
-                far,
-                Announce,
-                met,
-                VendorAgreed,
-                Heard(0, 3, 40),
-            ],
-            State::C,
-            3,
-            40,
-        ),
-        (
-            &[Start, far, far, Announce, met, VendorAgreed, Silence],
-            State::B,
-            3,
-            20,
-        ),
-        (&[Start, far, none, Announce, none], State::G, 0, 0),
-        (
-            &[Start, far, none, Announce, none, none, VendorAgreed],
-            State::G,
-            0,
-            0,
-        ),
-        (&[Start, far, none, Announce, none, same], State::D, 0, 0),
-        (
-            &[Start, far, none, Announce, none, Heard(2, 0, 0)],
-            State::C,
-            0,
-            0,
-        ),
-    ];
-    for (calls, state, hdlc, pointer) in &rows {
+    for (calls, state, hdlc, pointer) in &SET_UP {
         compare(&rt, calls, *state, *hdlc, *pointer);
     }
 }

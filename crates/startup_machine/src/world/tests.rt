@@ -127,115 +127,120 @@ fn compare_after(
     compare(rt, world, end, state, hdlc, pointer);
 }
 
+/// Events, and then an end with its state and its offer.
+type Row = (&'static [(usize, Event)], usize, State, u8, u8);
+
+/// Each event, at each end that it may change.
+const EACH: [Row; 17] = [
+    (&[(0, Start)], 0, State::B, 3, 20),
+    (&[(0, Start)], 1, State::A, 5, 40),
+    (&[(1, Start), (0, Tell), (1, Hear)], 1, State::B, 5, 40),
+    (&[(0, Start), (0, Tell), (0, Hear)], 0, State::B, 3, 20),
+    (
+        &[(0, Start), (1, Start), (0, Tell), (1, Hear)],
+        1,
+        State::C,
+        5,
+        40,
+    ),
+    (
+        &[(1, Start), (1, Tell), (0, Hear), (0, Start), (0, Hear)],
+        0,
+        State::B,
+        3,
+        20,
+    ),
+    (
+        &[(0, Start), (0, Lose), (0, Again), (0, Hear)],
+        0,
+        State::B,
+        3,
+        20,
+    ),
+    (
+        &[(0, Start), (1, Start), (1, Tell), (0, Lose), (0, Hear)],
+        0,
+        State::B,
+        3,
+        20,
+    ),
+    (
+        &[
+            (0, Start),
+            (1, Start),
+            (1, Tell),
+            (0, Again),
+            (0, Hear),
+            (0, Hear),
+        ],
+        0,
+        State::D,
+        3,
+        40,
+    ),
+    (
+        &[
+            (0, Start),
+            (1, Start),
+            (1, Tell),
+            (1, Lose),
+            (1, Again),
+            (0, Hear),
+        ],
+        0,
+        State::C,
+        3,
+        20,
+    ),
+    (
+        &[
+            (0, Start),
+            (1, Start),
+            (1, Tell),
+            (0, Reset),
+            (0, Start),
+            (0, Hear),
+        ],
+        0,
+        State::C,
+        3,
+        20,
+    ),
+    (&[(0, Start), (0, Agree)], 0, State::B, 3, 20),
+    (&[(0, Silence)], 0, State::A, 3, 20),
+    (
+        &[(0, Start), (1, Start), (1, Tell), (0, Hear), (0, Silence)],
+        0,
+        State::B,
+        3,
+        20,
+    ),
+    (
+        &[(0, Start), (1, Start), (1, Tell), (0, Hear), (0, Silence)],
+        1,
+        State::B,
+        5,
+        40,
+    ),
+    (
+        &[(0, Start), (1, Start), (1, Tell), (0, Hear), (0, Reset)],
+        0,
+        State::A,
+        3,
+        20,
+    ),
+    (
+        &[(0, Start), (1, Start), (1, Tell), (0, Hear), (0, Reset)],
+        1,
+        State::B,
+        5,
+        40,
+    ),
+];
+
 #[test]
 fn each_event(rt: HostRuntime) -> Result<(), Fail> {
-    let rows: [(&[(usize, Event)], usize, State, u8, u8); 17] = [
-        (&[(0, Start)], 0, State::B, 3, 20),
-        (&[(0, Start)], 1, State::A, 5, 40),
-        (&[(1, Start), (0, Tell), (1, Hear)], 1, State::B, 5, 40),
-        (&[(0, Start), (0, Tell), (0, Hear)], 0, State::B, 3, 20),
-        (
-            &[(0, Start), (1, Start), (0, Tell), (1, Hear)],
-            1,
-            State::C,
-            5,
-            40,
-        ),
-        (
-            &[(1, Start), (1, Tell), (0, Hear), (0, Start), (0, Hear)],
-            0,
-            State::B,
-            3,
-            20,
-        ),
-        (
-            &[(0, Start), (0, Lose), (0, Again), (0, Hear)],
-            0,
-            State::B,
-            3,
-            20,
-        ),
-        (
-            &[(0, Start), (1, Start), (1, Tell), (0, Lose), (0, Hear)],
-            0,
-            State::B,
-            3,
-            20,
-        ),
-        (
-            &[
-                (0, Start),
-                (1, Start),
-                (1, Tell),
-                (0, Again),
-                (0, Hear),
-                (0, Hear),
-            ],
-            0,
-            State::D,
-            3,
-            40,
-        ),
-        (
-            &[
-                (0, Start),
-                (1, Start),
-                (1, Tell),
-                (1, Lose),
-                (1, Again),
-                (0, Hear),
-            ],
-            0,
-            State::C,
-            3,
-            20,
-        ),
-        (
-            &[
-                (0, Start),
-                (1, Start),
-                (1, Tell),
-                (0, Reset),
-                (0, Start),
-                (0, Hear),
-            ],
-            0,
-            State::C,
-            3,
-            20,
-        ),
-        (&[(0, Start), (0, Agree)], 0, State::B, 3, 20),
-        (&[(0, Silence)], 0, State::A, 3, 20),
-        (
-            &[(0, Start), (1, Start), (1, Tell), (0, Hear), (0, Silence)],
-            0,
-            State::B,
-            3,
-            20,
-        ),
-        (
-            &[(0, Start), (1, Start), (1, Tell), (0, Hear), (0, Silence)],
-            1,
-            State::B,
-            5,
-            40,
-        ),
-        (
-            &[(0, Start), (1, Start), (1, Tell), (0, Hear), (0, Reset)],
-            0,
-            State::A,
-            3,
-            20,
-        ),
-        (
-            &[(0, Start), (1, Start), (1, Tell), (0, Hear), (0, Reset)],
-            1,
-            State::B,
-            5,
-            40,
-        ),
-    ];
-    for (events, end, state, hdlc, pointer) in &rows {
+    for (events, end, state, hdlc, pointer) in &EACH {
         let mut world = begin(rt.alloc())?;
         compare_after(&rt, &mut world, events, *end, *state, *hdlc, *pointer);
     }
