@@ -1,6 +1,7 @@
 // One basic frame, seen as its octets.
 ghost use Rattle.std.specs.Prelude.{◌≡◌, ◌+◌, ◌*◌, ◌<◌, ◌≤◌, ◌↔◌, ◌++◌, length, take, drop, replicate, IsTrue, IfOk};
-ghost use Rattle.basic_frame.specs.Frames.{IsWordSize, iq_bit};
+ghost use Rattle.basic_frame.specs.Frames.{iq_bit};
+ghost use Rattle.link_base.specs.WordSize.{IsWordSize};
 ghost use Rattle.sample_bits.specs.Copied.{CopiesBits};
 
 use link_base::NoMemory;
@@ -20,7 +21,7 @@ pub struct Frame<const Y: usize> {
 
 impl<const Y: usize> Model for Frame<Y> {
     ghost use Rattle.std.specs.Prelude.{◌≡◌, ◌*◌, ℕ, List, length};
-    ghost use Rattle.basic_frame.specs.Frames.{IsWordSize};
+    ghost use Rattle.link_base.specs.WordSize.{IsWordSize};
 
     ghost Value = { List ℕ };
 

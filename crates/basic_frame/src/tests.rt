@@ -1,4 +1,4 @@
-ghost use Rattle.basic_frame.specs.Frames.{IsWordSize};
+ghost use Rattle.link_base.specs.WordSize.{IsWordSize};
 
 use super::*;
 use link_base::NoMemory;

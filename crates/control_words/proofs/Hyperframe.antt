@@ -7,7 +7,7 @@ use Rattle.std.proofs.lemmas.List.Concat.{get_or-flat_map}
 use Rattle.std.proofs.lemmas.List.FromFn.{length-range_with_len, get_or-range_with_len, length-map-range_with_len, get_or-map-range_with_len}
 use Rattle.hyperframe.specs.Numbering.{frame_x, frame_z, frame_bfn}
 use Rattle.control_words.specs.declared.announce.Announce.{Announce}
-use Rattle.control_words.specs.WordSize.{IsWordSize}
+use Rattle.link_base.specs.WordSize.{IsWordSize}
 use Rattle.control_words.specs.Announcement.{IsWithinTable, allows_hdlc, allows_pointer}
 use Rattle.control_words.specs.ControlWord.{octet_of, word, words_of_hyperframe}
 use Rattle.control_words.proofs.Octets.{word_size_bounds}

@@ -7,7 +7,7 @@ use Rattle.std.proofs.lemmas.List.{get_or_past}
 use Rattle.std.proofs.lemmas.List.Sums.{count_by-le-length}
 use Rattle.std.proofs.lemmas.List.FromFn.{length-range_with_len}
 use Rattle.control_words.specs.declared.announce.Announce.{Announce}
-use Rattle.control_words.specs.WordSize.{IsWordSize}
+use Rattle.link_base.specs.WordSize.{IsWordSize}
 use Rattle.control_words.specs.Places.{is_slow_place, is_fast_place, is_managed_place, managed_before}
 use Rattle.control_words.specs.ControlWord.{octet_of}
 use Rattle.control_words.proofs.ManagedPlaces.{managed_first, managed_rank}

@@ -1,4 +1,3 @@
-pub mod WordSize
 pub mod Announcement
 pub mod Places
 pub mod ControlWord

@@ -1,5 +1,5 @@
 ghost use Rattle.std.specs.Prelude.{◌≡◌, ℕ, ◌<◌, ◌≤◌, nat_lt};
-ghost use Rattle.control_words.specs.WordSize.{IsWordSize};
+ghost use Rattle.link_base.specs.WordSize.{IsWordSize};
 ghost use Rattle.control_words.specs.Announcement.{IsWithinTable};
 ghost use Rattle.control_words.specs.Places.{is_slow_place, is_fast_place, is_managed_place, managed_before};
 

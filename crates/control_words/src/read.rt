@@ -1,6 +1,6 @@
 ghost use Rattle.std.specs.Prelude.{◌≡◌, ℕ, ◌+◌, ◌*◌, ◌<◌, List, length, Ok, IfOk, slice_index};
 ghost use Rattle.hyperframe.specs.Numbering.{frame_z, frame_bfn};
-ghost use Rattle.control_words.specs.WordSize.{IsWordSize};
+ghost use Rattle.link_base.specs.WordSize.{IsWordSize};
 ghost use Rattle.control_words.specs.Announcement.{IsWithinTable};
 ghost use Rattle.control_words.specs.ControlWord.{words_of_hyperframe};
 ghost use Rattle.control_words.specs.Reading.{control_octet, is_synchronized, announced, numbers};

@@ -1,6 +1,6 @@
 //! Control words at each place of a hyperframe, and what is read from them.
 ghost use Rattle.std.specs.Prelude.{◌≡◌};
-ghost use Rattle.control_words.specs.WordSize.{IsWordSize};
+ghost use Rattle.link_base.specs.WordSize.{IsWordSize};
 ghost use Rattle.control_words.specs.Announcement.{IsWithinTable};
 
 use crate::{

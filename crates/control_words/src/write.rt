@@ -1,6 +1,6 @@
 ghost use Rattle.std.specs.Prelude.{◌≡◌, ℕ, ◌<◌, length, slice_index};
 ghost use Rattle.hyperframe.specs.Numbering.{frame_x, frame_z, frame_bfn};
-ghost use Rattle.control_words.specs.WordSize.{IsWordSize};
+ghost use Rattle.link_base.specs.WordSize.{IsWordSize};
 ghost use Rattle.control_words.specs.Announcement.{IsWithinTable};
 ghost use Rattle.control_words.specs.Places.{managed_before};
 ghost use Rattle.control_words.specs.ControlWord.{octet_of, word};

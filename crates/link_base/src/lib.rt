@@ -2,6 +2,7 @@
 #![tactic(auto)]
 
 mod file_shelf;
+mod full;
 mod mem_shelf;
 mod mem_sink;
 mod memory;
@@ -11,6 +12,7 @@ mod std_sink;
 mod tests;
 
 pub use file_shelf::FileShelf;
+pub use full::Full;
 pub use mem_shelf::MemShelf;
 pub use mem_sink::MemSink;
 pub use memory::NoMemory;

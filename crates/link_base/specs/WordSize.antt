@@ -1,5 +1,4 @@
--- The octets of a word of a basic frame at the line bit rate options 1 to 7
--- (CPRI Specification V7.0, section 4.2.7.1).
+-- The octets of a word of a basic frame at the line bit rate options 1 to 7 (CPRI Specification V7.0, section 4.2.7.1).
 use Rattle.std.specs.Prelude.{ℕ, Bool, ◌==◌, ◌||◌, IsTrue}
 
 -- whether y is one of the seven word sizes
