@@ -1,3 +1,4 @@
 pub mod Appended
+pub mod BufferLemmas
 pub mod ShelfFiles
 pub mod Stops

@@ -1,7 +1,11 @@
 pub mod Bits
+pub mod Count
 pub mod Faults
+pub mod Filling
 pub mod MemShelf
 pub mod MemSink
+pub mod Record
 pub mod Shelf
 pub mod Sink
+pub mod Window
 pub mod WordSize

@@ -2,6 +2,7 @@
 #![tactic(auto)]
 
 mod file_shelf;
+mod filling;
 mod full;
 mod mem_shelf;
 mod mem_sink;
@@ -12,6 +13,7 @@ mod std_sink;
 mod tests;
 
 pub use file_shelf::FileShelf;
+pub use filling::fill;
 pub use full::Full;
 pub use mem_shelf::MemShelf;
 pub use mem_sink::MemSink;
