@@ -36,17 +36,14 @@ woven-lt m word e o evens odds e_fits o_fits =
 pub gathered-even_lt : (m word e : ℕ) → word < 2 ^ (2 * m) → ((j : ℕ) → bit_at e j ≡ bit_at word (2 * j)) → e < 2 ^ m
 gathered-even_lt m word e fits evens = lt_from_bits e m (λ j h. evens j ∙ bit_at_above word (2 * m) (2 * j) fits (omega arith))
 
-pub gathered-odd : (word o : ℕ) → ((j : ℕ) → bit_at o j ≡ bit_at (word / 2 ^ 1) (2 * j)) → (j : ℕ) → bit_at o j ≡ bit_at word (2 * j + 1)
-gathered-odd word o odds j = let place : 1 + 2 * j ≡ 2 * j + 1 = omega arith in odds j ∙ bit_at-shr word 1 (2 * j) ∙ ap (bit_at word) place
+pub gathered-odd_lt : (m word o : ℕ) → word < 2 ^ (2 * m) → ((j : ℕ) → bit_at o j ≡ bit_at word (2 * j + 1)) → o < 2 ^ m
+gathered-odd_lt m word o fits odds = lt_from_bits o m (λ j h. odds j ∙ bit_at_above word (2 * m) (2 * j + 1) fits (omega arith))
 
-pub gathered-odd_lt : (m word o : ℕ) → word < 2 ^ (2 * m) → ((j : ℕ) → bit_at o j ≡ bit_at (word / 2 ^ 1) (2 * j)) → o < 2 ^ m
-gathered-odd_lt m word o fits odds = lt_from_bits o m (λ j h. gathered-odd word o odds j ∙ bit_at_above word (2 * m) (2 * j + 1) fits (omega arith))
-
-pub gathered-sample : (m : ℕ) (s : RawIq) (word e o : ℕ) → ((j : ℕ) → bit_at e j ≡ bit_at word (2 * j)) → ((j : ℕ) → bit_at o j ≡ bit_at (word / 2 ^ 1) (2 * j)) → ((j : ℕ) → j < m → int_bit s.i j ≡ bit_at e j) → ((j : ℕ) → j < m → int_bit s.q j ≡ bit_at o j) → (k : ℕ) → k < 2 * m → sample_bit s k ≡ bit_at word k
+pub gathered-sample : (m : ℕ) (s : RawIq) (word e o : ℕ) → ((j : ℕ) → bit_at e j ≡ bit_at word (2 * j)) → ((j : ℕ) → bit_at o j ≡ bit_at word (2 * j + 1)) → ((j : ℕ) → j < m → int_bit s.i j ≡ bit_at e j) → ((j : ℕ) → j < m → int_bit s.q j ≡ bit_at o j) → (k : ℕ) → k < 2 * m → sample_bit s k ≡ bit_at word k
 gathered-sample m s word e o evens odds is qs =
     even_or_odd (λ k. k < 2 * m → sample_bit s k ≡ bit_at word k)
     (λ j h. sample_bit-even s j ∙ is j (omega arith) ∙ evens j)
-    (λ j h. sample_bit-odd s j ∙ qs j (omega arith) ∙ gathered-odd word o odds j)
+    (λ j h. sample_bit-odd s j ∙ qs j (omega arith) ∙ odds j)
 
 -- samples of m bits with the same bits are equal
 pub same_from_sample_bits : (m : ℕ) (s t : RawIq) → 1 ≤ m → IsWithin m s → IsWithin m t → ((k : ℕ) → k < 2 * m → sample_bit s k ≡ sample_bit t k) → s ≡ t

@@ -1,3 +1,7 @@
-pub mod Samples
+pub mod BlockPlace
+pub mod Blocks
 pub mod Copied
+pub mod SampleOfBits
+pub mod SampleRate
+pub mod Samples
 pub mod Spread

@@ -1,11 +1,13 @@
 // One sample of an antenna-carrier, as plain numbers and with the range of its width.
-ghost use Rattle.std.specs.Prelude.{◌≡◌, ℕ, ◌*◌, ◌^◌, ◌<◌, ◌≤◌, ◌↔◌, IsTrue};
+ghost use Rattle.std.specs.Prelude.{◌≡◌, ℕ, ◌+◌, ◌*◌, ◌^◌, ◌<◌, ◌≤◌, ◌↔◌, IsTrue, length};
 ghost use Rattle.std.specs.Int.{bit_at};
 ghost use Rattle.std.specs.Option.{SomeIff};
 ghost use Rattle.sample_bits.specs.declared.iq.RawIq.{RawIq as Raw};
 ghost use Rattle.sample_bits.specs.Samples.{int_bit, sample_bit, FitsBits, IsWithin};
+ghost use Rattle.sample_bits.specs.SampleOfBits.{sample_at};
 
-use crate::interleaving::{gather, weave};
+use crate::interleaving::{unweave, weave};
+use crate::words::load;
 use std::marker::Model;
 
 /// A sample as plain numbers, which no width bounds.
@@ -53,6 +55,7 @@ impl<const M: u32> Iq<M> {
     }
 
     /// The sample as plain numbers.
+    #[inline]
     pub fn wide(self) -> RawIq
         ensures value { result ≡ self.entry }
         ensures within { IsWithin M result }
@@ -65,14 +68,16 @@ impl<const M: u32> Iq<M> {
 
     /// The 2·M bits of the sample as a number: the bits of I and Q take turns from the lowest on, I first (CPRI
     /// Specification V7.0, section 4.2.7.2).
+    #[inline]
     pub fn interleave(self) -> u64
         ensures bits { (k : ℕ) → k < 2 * M → bit_at result k ≡ sample_bit self.entry k }
         ensures no_others { result < 2 ^ (2 * M) }
     {
-        weave(low_bits(self.i, M), low_bits(self.q, M))
+        self.wide().word(M)
     }
 
     /// The sample that has these bits.
+    #[inline]
     pub fn deinterleave(word: u64) -> Self
         requires least { 4 ≤ M }
         requires most { M ≤ 20 }
@@ -85,10 +90,60 @@ impl<const M: u32> Iq<M> {
             → ((k : ℕ) → k < 2 * M → sample_bit s k ≡ bit_at word k)
             → s ≡ result }
     {
+        let (even, odd) = unweave(word, M);
         Iq {
-            i: signed(gather(word), M),
-            q: signed(gather(word >> 1), M),
+            i: signed(even, M),
+            q: signed(odd, M),
         }
+    }
+
+    /// The sample whose bits stand from bit `from` of the octets on.
+    #[inline]
+    pub fn read(octets: &[u8], from: usize) -> Self
+        requires least { 4 ≤ M }
+        requires most { M ≤ 20 }
+        requires within { from + 2 * M ≤ 8 * length octets.now }
+        ensures { result ≡ sample_at M octets.now from }
+    {
+        let bits = load(&octets[from / 8..]) >> (from % 8);
+        Self::deinterleave(bits & ((1 << (2 * M)) - 1))
+    }
+}
+
+impl<const M: u32> SampleWord for Iq<M> {
+    ghost use Rattle.sample_bits.specs.declared.iq.RawIq.{RawIq as Raw};
+
+    ghost sample = { λ (s : Raw). s };
+
+    #[inline]
+    fn word(&self, m: u32) -> u64 {
+        self.wide().word(m)
+    }
+}
+
+/// What has the bits of a sample.
+pub trait SampleWord {
+    ghost use Rattle.sample_bits.specs.declared.iq.RawIq.{RawIq as Raw};
+
+    ghost sample: { Self → Raw };
+
+    /// The 2·`m` lowest bits of the sample as a number: the bits of I and Q take turns from the lowest on, I first (CPRI
+    /// Specification V7.0, section 4.2.7.2).
+    fn word(&self, m: u32) -> u64
+        requires least { 4 ≤ m }
+        requires most { m ≤ 20 }
+        ensures bits { (k : ℕ) → k < 2 * m → bit_at result k ≡ sample_bit (sample self.now) k }
+        ensures no_others { result < 2 ^ (2 * m) };
+}
+
+impl SampleWord for RawIq {
+    ghost use Rattle.sample_bits.specs.declared.iq.RawIq.{RawIq as Raw};
+
+    ghost sample = { λ (s : Raw). s };
+
+    #[inline]
+    fn word(&self, m: u32) -> u64 {
+        weave(low_bits(self.i, m), low_bits(self.q, m), m)
     }
 }
 
@@ -103,6 +158,7 @@ fn fits(value: i32, width: u32) -> bool
 }
 
 // The lowest bits of a value, as a number.
+#[inline]
 fn low_bits(value: i32, width: u32) -> u64
     requires { width ≤ 31 }
     ensures bits { (j : ℕ) → j < width → bit_at result j ≡ int_bit value j }
@@ -112,6 +168,7 @@ fn low_bits(value: i32, width: u32) -> u64
 }
 
 // The value of `width` bits in two's complement.
+#[inline]
 fn signed(bits: u64, width: u32) -> i32
     requires least { 1 ≤ width }
     requires most { width ≤ 30 }
@@ -119,10 +176,7 @@ fn signed(bits: u64, width: u32) -> i32
     ensures within { FitsBits width result }
     ensures bits { (j : ℕ) → j < width → int_bit result j ≡ bit_at bits j }
 {
-    let magnitude = bits as i32;
-    if bits >> (width - 1) == 0 {
-        magnitude
-    } else {
-        magnitude - (1 << width)
-    }
+    let half = 1 << (width - 1);
+    let raised = (bits + half) & ((1 << width) - 1);
+    raised as i32 - half as i32
 }

@@ -2,7 +2,7 @@ use Rattle.std.proofs.Common.{◌+◌, ◌-◌, ◌∙◌, length, take, ap, ari
 use Rattle.std.specs.Int.{to_le_bytes}
 use Rattle.link_base.specs.Bits.{bit_of}
 use Rattle.sample_bits.proofs.OctetLemmas.{bit_of-put_mid, bit_of-to_le_bytes, bit_of-take}
-use Rattle.sample_bits.proofs.copy.store.Goals as goal
+use Rattle.sample_bits.proofs.words.store.Goals as goal
 
 pub returns-then-room-ge8-clause-written : goal.returns-then-room-ge8-clause-written
 returns-then-room-ge8-clause-written c j h room =

@@ -2,7 +2,7 @@ use Rattle.std.proofs.Common.{◌∙◌, rules, Fits}
 use Rattle.std.specs.Int.{w64}
 use Rattle.std.proofs.lemmas.Nat.Bits.{bit_at_above}
 use Rattle.sample_bits.proofs.SpreadLemmas.{woven-even, woven-odd}
-use Rattle.sample_bits.proofs.interleaving.weave.Goals as goal
+use Rattle.sample_bits.proofs.interleaving.weave_long.Goals as goal
 
 pub returns-clause-at_even : goal.returns-clause-at_even
 returns-clause-at_even c j =

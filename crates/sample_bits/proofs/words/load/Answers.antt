@@ -1,8 +1,8 @@
 use Rattle.std.proofs.Common.{◌∙◌, ◌++◌, drop, length, replicate, ap, w64}
 use Rattle.std.specs.Int.{bit_at, from_le_bytes}
 use Rattle.sample_bits.proofs.OctetLemmas.{loaded-whole, loaded-part}
-use Rattle.sample_bits.proofs.copy.load.Goals as goal
-use Rattle.sample_bits.proofs.copy.load.Goals.{then-octets-ge8, else-octets-ge8}
+use Rattle.sample_bits.proofs.words.load.Goals as goal
+use Rattle.sample_bits.proofs.words.load.Goals.{then-octets-ge8, else-octets-ge8}
 
 pub returns : goal.returns
 returns c j h =

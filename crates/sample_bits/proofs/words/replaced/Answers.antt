@@ -1,5 +1,5 @@
 use Rattle.sample_bits.proofs.BitLemmas.{replaced-inside, replaced-before, replaced-after}
-use Rattle.sample_bits.proofs.copy.replaced.Goals as goal
+use Rattle.sample_bits.proofs.words.replaced.Goals as goal
 
 pub returns-clause-copied : goal.returns-clause-copied
 returns-clause-copied c j h = replaced-inside c.args.word c.args.bits c.args.at c.args.count j c.requires h
