@@ -1,1 +1,5 @@
 pub mod Numbering
+pub mod Locks
+pub mod Acquires
+pub mod Loss
+pub mod CountsLoss

@@ -1,0 +1,2 @@
+pub mod SyncSteps
+pub mod LossSteps
