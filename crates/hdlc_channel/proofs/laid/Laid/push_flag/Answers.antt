@@ -1,0 +1,6 @@
+use Rattle.hdlc_channel.specs.Bits.{low_bits}
+use Rattle.hdlc_channel.proofs.laid.Laid.push_flag.Goals as goal
+
+pub returns : goal.returns
+unfolding low_bits
+returns c = c.push.ensures

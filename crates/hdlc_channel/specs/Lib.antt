@@ -1,0 +1,10 @@
+pub mod Bits
+pub mod Fcs
+pub mod SlowText
+pub mod Reader
+pub mod Content
+pub mod SlowStream
+pub mod Outgoing
+pub mod SlowLaw
+pub mod Octet
+pub mod Quiet
