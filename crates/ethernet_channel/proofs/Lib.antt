@@ -1,0 +1,17 @@
+pub mod CodeTables
+pub mod NibbleLemmas
+pub mod Readings
+pub mod Cuts
+pub mod Numbers
+pub mod Rules
+pub mod Hunts
+pub mod BitSteps
+pub mod LowBits
+pub mod Queues
+pub mod EncodingTable
+pub mod Streams
+pub mod Prefixes
+pub mod WrittenGroups
+pub mod WrittenFrames
+pub mod Runs
+pub mod Chunks

@@ -1,0 +1,10 @@
+pub mod Bits
+pub mod Codes
+pub mod Events
+pub mod FastStream
+pub mod Keeps
+pub mod Nibbles
+pub mod Queue
+pub mod Steps
+pub mod Encodes
+pub mod Written
