@@ -1,0 +1,11 @@
+pub mod Awaited
+pub mod Candidates
+pub mod Freshness
+pub mod Lookups
+pub mod Meeting
+pub mod Numbers
+pub mod Receiving
+pub mod Room
+pub mod Settling
+pub mod SlotSteps
+pub mod Written

@@ -1,0 +1,32 @@
+use Rattle.std.proofs.Common.{◌≡◌, ◌≢◌, ◌+◌, ◌/◌, None, Some, sym, ap, subst, ◌∙◌}
+use Rattle.playout_buffer.specs.Held.{part_in}
+use Rattle.playout_buffer.specs.View.{PlayoutView}
+use Rattle.playout_buffer.proofs.SlotSteps.{slot_number, number_at, no_part, the_part, part_fits}
+use Rattle.playout_buffer.proofs.playout.Playout.frame.Goals as goal
+
+pub returns-then-index-number : goal.returns-then-index-number
+returns-then-index-number c =
+    let s = c.self.inside in
+    let played = rw (← c.self.view_is) at c.requires in
+    let number = slot_number s.window s.present s.numbers.items s.octets.items c.self.invariant.0 (c.args.n / s.window.frames) c.index.result.now (rw (c.from.ensures, c.from-2.ensures) at c.index.ensures) in
+    let other : number_at s.window s.present s.numbers.items s.octets.items c.self.invariant.0 (c.args.n / s.window.frames) ≢ c.args.n / s.window.frames + 1
+    = λ e. c.if-index-number.true (sym number ∙ e ∙ ap (λ k. c.args.n / k + 1) (sym c.from.ensures)) in
+    subst (λ (v : PlayoutView). None ≡ part_in v.window v.held c.args.n) c.self.view_is
+    (no_part s.window s.present s.numbers.items s.octets.items c.self.invariant.0 c.args.n played other)
+
+pub piece_at-requires : goal.piece_at-requires
+piece_at-requires c =
+    let s = c.self.inside in
+    let played = rw (← c.self.view_is) at c.requires in
+    rw (c.from.ensures, c.from-2.ensures, c.from-3.ensures, c.as_slice.ensures.value)
+    (part_fits s.window s.present s.numbers.items s.octets.items c.self.invariant.0 c.args.n played)
+
+pub returns : goal.returns
+returns c =
+    let s = c.self.inside in
+    let played = rw (← c.self.view_is) at c.requires in
+    let number = slot_number s.window s.present s.numbers.items s.octets.items c.self.invariant.0 (c.args.n / s.window.frames) c.index.result.now (rw (c.from.ensures, c.from-2.ensures) at c.index.ensures) in
+    let same = number ∙ c.if-index-number.false ∙ ap (λ k. c.args.n / k + 1) c.from.ensures in
+    let piece = rw (c.from.ensures, c.from-2.ensures, c.from-3.ensures, c.as_slice.ensures.value) at c.piece_at.ensures in
+    subst (λ (v : PlayoutView). Some c.piece_at.result.now ≡ part_in v.window v.held c.args.n) c.self.view_is
+    (ap Some piece ∙ the_part s.window s.present s.numbers.items s.octets.items c.self.invariant.0 c.args.n played same)
