@@ -3,6 +3,8 @@ use Rattle.std.specs.Prelude.{codes, ℕ, Bool, ◌^◌, ◌==◌, ℤ, pos, neg
 use Rattle.hex.specs.Hex.{decode_sized}
 use Rattle.hex.specs.declared.error.FromHexError.{FromHexError}
 use Rattle.toml.specs.Data.{Data, string, integer, boolean}
+use Rattle.carrier_plan.specs.declared.version.Version.{Version}
+use Rattle.carrier_plan.specs.declared.version.Version.TheVariants.{One, Two}
 use Rattle.carrier_plan.specs.declared.plan.Mode.{Mode}
 use Rattle.carrier_plan.specs.declared.plan.Mode.TheVariants.{Tunnel, Bytes, Aware}
 use Rattle.carrier_plan.specs.declared.plan.Method.{Method}
@@ -27,6 +29,7 @@ key_of field.K = codes "k"
 key_of field.M = codes "m"
 key_of field.Start = codes "start"
 key_of field.Size = codes "size"
+key_of field.Pieces = codes "pieces"
 key_of field.Id = codes "id"
 key_of field.Dst = codes "dst"
 key_of field.Src = codes "src"
@@ -39,12 +42,13 @@ key_of field.Cap = codes "cap"
 key_of field.P = codes "p"
 key_of field.Q = codes "q"
 
--- the keys of the whole document, those of one carrier, and those of one flow
+-- the keys of the whole document, those of one carrier by the version of the text, and those of one flow
 abbrev pub top_fields : List Field
 top_fields = field.Version ∷ field.LineOption ∷ field.Mode ∷ field.Playout ∷ field.Carrier ∷ field.Flow ∷ []
 
-abbrev pub carrier_fields : List Field
-carrier_fields = field.Method ∷ field.S ∷ field.K ∷ field.M ∷ field.Start ∷ field.Size ∷ []
+abbrev pub carrier_fields : Version → List Field
+carrier_fields One = field.Method ∷ field.S ∷ field.K ∷ field.M ∷ field.Start ∷ field.Size ∷ []
+carrier_fields Two = field.Method ∷ field.S ∷ field.K ∷ field.M ∷ field.Pieces ∷ []
 
 abbrev pub flow_fields : List Field
 flow_fields =
@@ -60,9 +64,13 @@ abbrev pub number_of : Spot → Data → Result ℕ PlanText
 number_of spot (integer z) = in_range spot z
 number_of spot _ = Err (Kind spot)
 
--- the one version is 1
-abbrev pub known_version : Spot → ℕ → Result ℕ PlanText
-known_version spot n = if n == 1 then Ok n else Err (Value spot)
+-- the versions are 1 and 2
+abbrev pub number_of_version : Version → ℕ
+number_of_version One = 1
+number_of_version Two = 2
+
+abbrev pub version_numbered : Spot → ℕ → Result Version PlanText
+version_numbered spot n = if n == 1 then Ok One else (if n == 2 then Ok Two else Err (Value spot))
 
 -- the method, by its number
 abbrev pub method_numbered : Spot → ℕ → Result Method PlanText

@@ -1,11 +1,14 @@
 -- The plan that the octets of a file are, or the first fault in them. This project's own format, over the
 -- table that TOML gives for a text.
-use Rattle.std.specs.Prelude.{◌≡◌, ℕ, suc, Bool, true, not, ◌&&◌, is_some, nat_lt, bytes_eq, List, [], ◌∷◌, length, Option, Some, None, Result, Ok, Err, if◌then◌else◌}
+use Rattle.std.specs.Prelude.{◌≡◌, ℕ, suc, Bool, true, false, not, ◌&&◌, is_some, nat_lt, bytes_eq, List, [], ◌∷◌, length, Option, Some, None, Result, Ok, Err, if◌then◌else◌}
 use Rattle.std.specs.List.{list_any}
 use Rattle.std.specs.Str.{is_utf8}
 use Rattle.toml.specs.Data.{Data, as_integer, array, table, Items, no_items, item, Members, no_members, member, get_member}
 use Rattle.toml.specs.Parse.{parse_document}
+use Rattle.carrier_plan.specs.declared.version.Version.{Version}
+use Rattle.carrier_plan.specs.declared.version.Version.TheVariants.{One, Two}
 use Rattle.carrier_plan.specs.declared.plan.Method.{Method}
+use Rattle.carrier_plan.specs.declared.plan.Piece.{Piece}
 use Rattle.carrier_plan.specs.declared.plan.Mode.{Mode}
 use Rattle.carrier_plan.specs.declared.plan.Carrier.{Carrier}
 use Rattle.carrier_plan.specs.declared.plan.Flow.{Flow}
@@ -18,7 +21,7 @@ use Rattle.carrier_plan.specs.declared.fault.PlanText.{PlanText}
 use Rattle.carrier_plan.specs.declared.fault.PlanText.TheVariants.{Long, Utf8, Toml, Missing, Kind, Extra}
 use Rattle.carrier_plan.specs.declared.fault.ReadError.{ReadError}
 use Rattle.carrier_plan.specs.declared.fault.ReadError.TheVariants as error
-use Rattle.carrier_plan.specs.Keys.{key_of, top_fields, carrier_fields, flow_fields, number_of, known_version, method_numbered, mode_of, address_of, truth_of}
+use Rattle.carrier_plan.specs.Keys.{key_of, top_fields, carrier_fields, flow_fields, number_of, version_numbered, method_numbered, mode_of, address_of, truth_of}
 
 infixl 10 ◌>>=◌
 abbrev pub ◌>>=◌ : {A B : Type 0} → Result A PlanText → (A → Result B PlanText) → Result B PlanText
@@ -37,8 +40,8 @@ value_at keys spot = required spot (get_member (key_of spot.field) keys)
 abbrev pub number_at : Members → Spot → Result ℕ PlanText
 number_at keys spot = value_at keys spot >>= number_of spot
 
-abbrev pub version_at : Members → Spot → Result ℕ PlanText
-version_at keys spot = number_at keys spot >>= known_version spot
+abbrev pub version_at : Members → Spot → Result Version PlanText
+version_at keys spot = number_at keys spot >>= version_numbered spot
 
 abbrev pub method_at : Members → Spot → Result Method PlanText
 method_at keys spot = number_at keys spot >>= method_numbered spot
@@ -76,6 +79,34 @@ numbers_of spot _ = Err (Kind spot)
 abbrev pub numbers_at : Members → Spot → Result (List ℕ) PlanText
 numbers_at keys spot = value_at keys spot >>= numbers_of spot
 
+-- a piece: an array of two whole numbers, the first IQ bit and how many
+abbrev pub is_pair : Data → Bool
+is_pair (array (item start (item size no_items))) = is_some (as_integer start) && is_some (as_integer size)
+is_pair _ = false
+
+abbrev pub piece_of : Spot → Data → Result Piece PlanText
+piece_of spot (array (item first (item second no_items))) = do
+  start ← number_of spot first
+  size ← number_of spot second
+  Ok (record { start = start; size = size })
+piece_of spot _ = Err (Kind spot)
+
+-- every element is a pair of whole numbers, in range or not
+abbrev pub are_pairs : Items → Bool
+are_pairs no_items = true
+are_pairs (item d rest) = is_pair d && are_pairs rest
+
+abbrev pub pieces_in : Spot → Items → Result (List Piece) PlanText
+pieces_in spot elements = all_from (λ _. piece_of spot) 0 elements
+
+-- an array of pieces, whose kinds are all tried before their ranges
+abbrev pub pieces_of : Spot → Data → Result (List Piece) PlanText
+pieces_of spot (array elements) = if are_pairs elements then pieces_in spot elements else Err (Kind spot)
+pieces_of spot _ = Err (Kind spot)
+
+abbrev pub pieces_at : Members → Spot → Result (List Piece) PlanText
+pieces_at keys spot = value_at keys spot >>= pieces_of spot
+
 -- the keys of a table, in its order
 abbrev pub keys_in : Members → List (List ℕ)
 keys_in no_members = []
@@ -107,32 +138,36 @@ rate_in i keys = do
   m ← number_at keys (of_carrier i field.M)
   Ok (s, k, m)
 
--- its container: the first IQ bit, and how many
-unfoldable pub container_in : ℕ → Members → Result (ℕ × ℕ) PlanText
-container_in i keys = do
+-- its container: by its first IQ bit and how many, which are its one piece, or by its pieces
+abbrev pub piece_from : ℕ → Members → Result (List Piece) PlanText
+piece_from i keys = do
   start ← number_at keys (of_carrier i field.Start)
   size ← number_at keys (of_carrier i field.Size)
-  Ok (start, size)
+  Ok (record { start = start; size = size } ∷ [])
+
+unfoldable pub container_in : Version → ℕ → Members → Result (List Piece) PlanText
+container_in One i keys = piece_from i keys
+container_in Two i keys = pieces_at keys (of_carrier i field.Pieces)
 
 -- a carrier: its keys in their order, and no others
-unfoldable pub carrier_in : ℕ → Members → Result Carrier PlanText
-carrier_in i keys = do
+unfoldable pub carrier_in : Version → ℕ → Members → Result Carrier PlanText
+carrier_in version i keys = do
   method ← method_at keys (of_carrier i field.Method)
   rate ← rate_in i keys
-  container ← container_in i keys
-  if has_extra carrier_fields keys then Err (Extra (part.Carrier i))
-      else Ok (record { method = method; s = rate.0; k = rate.1; m = rate.2; start = container.0; size = container.1 })
+  pieces ← container_in version i keys
+  if has_extra (carrier_fields version) keys then Err (Extra (part.Carrier i))
+      else Ok (record { method = method; s = rate.0; k = rate.1; m = rate.2; pieces = pieces })
 
 -- an element of the array `carrier`, which has to be a table
-abbrev pub carrier_of : ℕ → Data → Result Carrier PlanText
-carrier_of i (table keys) = carrier_in i keys
-carrier_of i _ = Err (Kind (of_carrier i field.Carrier))
+abbrev pub carrier_of : Version → ℕ → Data → Result Carrier PlanText
+carrier_of version i (table keys) = carrier_in version i keys
+carrier_of version i _ = Err (Kind (of_carrier i field.Carrier))
 
 -- the carriers, none where the key is absent
-abbrev pub carriers_of : Option Data → Result (List Carrier) PlanText
-carriers_of None = Ok []
-carriers_of (Some (array elements)) = all_from carrier_of 0 elements
-carriers_of (Some _) = Err (Kind (top field.Carrier))
+abbrev pub carriers_of : Version → Option Data → Result (List Carrier) PlanText
+carriers_of version None = Ok []
+carriers_of version (Some (array elements)) = all_from (carrier_of version) 0 elements
+carriers_of version (Some _) = Err (Kind (top field.Carrier))
 
 -- where a flow goes: its id, its destination and its source
 unfoldable pub ends_in : ℕ → Members → Result (ℕ × List ℕ × List ℕ) PlanText
@@ -207,21 +242,21 @@ flows_of (Some (array elements)) = all_from flow_of 0 elements
 flows_of (Some _) = Err (Kind (top field.Flow))
 
 -- the four keys of the whole document that are no arrays
-unfoldable pub line_in : Members → Result (ℕ × Mode × ℕ) PlanText
+unfoldable pub line_in : Members → Result (Version × ℕ × Mode × ℕ) PlanText
 line_in keys = do
   version ← version_at keys (top field.Version)
   option ← number_at keys (top field.LineOption)
   mode ← mode_at keys (top field.Mode)
   playout ← number_at keys (top field.Playout)
-  Ok (option, mode, playout)
+  Ok (version, option, mode, playout)
 
 -- the whole document: its keys in their order, no others, then the carriers, and then the flows
 unfoldable pub plan_in : Members → Result Plan PlanText
 plan_in keys = do
   line ← line_in keys
-  carriers ← if has_extra top_fields keys then Err (Extra part.Top) else carriers_of (get_member (key_of field.Carrier) keys)
+  carriers ← if has_extra top_fields keys then Err (Extra part.Top) else carriers_of line.0 (get_member (key_of field.Carrier) keys)
   flows ← flows_of (get_member (key_of field.Flow) keys)
-  Ok (record { option = line.0; mode = line.1; playout = line.2; carriers = carriers; flows = flows })
+  Ok (record { option = line.1; mode = line.2; playout = line.3; carriers = carriers; flows = flows })
 
 -- what TOML gives for the text, or nothing where it refuses the text
 abbrev pub plan_of_document : Option Members → Result Plan PlanText

@@ -1,5 +1,5 @@
 // A list of carriers, which contracts see as a list.
-ghost use Rattle.std.specs.Prelude.{◌≡◌, ◌<◌, [], ◌∷◌, ◌++◌, length, slice_get, Some, IsTrue, ◌↔◌, OnOk, OnErr};
+ghost use Rattle.std.specs.Prelude.{◌≡◌, ◌<◌, [], ◌∷◌, ◌++◌, length, slice_get, Some, IsTrue, ◌↔◌, IfOk, OnOk, OnErr};
 
 use crate::plan::Carrier;
 use link_base::NoMemory;
@@ -65,5 +65,16 @@ impl CarrierList {
         ensures { result.now ≡ self.now }
     {
         self.carriers.as_slice()
+    }
+
+    /// The same carriers once more.
+    pub fn copy(&self, alloc: Global) -> Result<CarrierList, NoMemory>
+        ensures { IfOk result (λ copy. copy ≡ self.now) }
+    {
+        let mut copy = CarrierList::new(alloc);
+        for carrier in self.as_slice() {
+            copy.push(carrier.copy(alloc)?)?;
+        }
+        Ok(copy)
     }
 }

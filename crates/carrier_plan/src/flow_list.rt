@@ -1,5 +1,5 @@
 // A list of flows, which contracts see as a list.
-ghost use Rattle.std.specs.Prelude.{◌≡◌, ◌<◌, [], ◌∷◌, ◌++◌, length, slice_get, Some, IsTrue, ◌↔◌, OnOk, OnErr};
+ghost use Rattle.std.specs.Prelude.{◌≡◌, ◌<◌, [], ◌∷◌, ◌++◌, length, slice_get, Some, IsTrue, ◌↔◌, IfOk, OnOk, OnErr};
 
 use crate::plan::Flow;
 use link_base::NoMemory;
@@ -65,5 +65,16 @@ impl FlowList {
         ensures { result.now ≡ self.now }
     {
         self.flows.as_slice()
+    }
+
+    /// The same flows once more.
+    pub fn copy(&self, alloc: Global) -> Result<FlowList, NoMemory>
+        ensures { IfOk result (λ copy. copy ≡ self.now) }
+    {
+        let mut copy = FlowList::new(alloc);
+        for flow in self.as_slice() {
+            copy.push(flow.copy(alloc)?)?;
+        }
+        Ok(copy)
     }
 }

@@ -1,5 +1,5 @@
 // A list of numbers, which contracts see as a list.
-ghost use Rattle.std.specs.Prelude.{◌≡◌, ◌<◌, [], ◌∷◌, ◌++◌, length, slice_get, Some, IsTrue, ◌↔◌, OnOk, OnErr};
+ghost use Rattle.std.specs.Prelude.{◌≡◌, ◌<◌, [], ◌∷◌, ◌++◌, length, slice_get, Some, IsTrue, ◌↔◌, IfOk, OnOk, OnErr};
 
 use link_base::NoMemory;
 use std::alloc::Global;
@@ -63,5 +63,14 @@ impl NumberList {
         ensures { result.now ≡ self.now }
     {
         self.numbers.as_slice()
+    }
+
+    /// The same numbers once more.
+    pub fn copy(&self, alloc: Global) -> Result<NumberList, NoMemory>
+        ensures { IfOk result (λ copy. copy ≡ self.now) }
+    {
+        Ok(NumberList {
+            numbers: Vec::from_slice(alloc, self.numbers.as_slice())?,
+        })
     }
 }

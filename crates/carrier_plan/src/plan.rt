@@ -1,7 +1,12 @@
 // A plan as plain data.
+ghost use Rattle.std.specs.Prelude.{IfOk, ◌≡◌};
+
 use crate::carrier_list::CarrierList;
 use crate::flow_list::FlowList;
 use crate::number_list::NumberList;
+use crate::piece_list::PieceList;
+use link_base::NoMemory;
+use std::alloc::Global;
 
 /// How a basic frame is put into packets.
 #[derive(Clone, Copy, Debug, PartialEq, Eq)]
@@ -23,16 +28,37 @@ pub enum Method {
     Compatible,
 }
 
-/// An antenna carrier. Its rate is `s` samples in `k` basic frames, each of I and Q in `m` bits, and its
-/// container is the `size` IQ bits of the frame from `start` on.
+/// A piece of a container: the `size` IQ bits of the basic frame from `start` on.
 #[derive(Clone, Copy, Debug, PartialEq, Eq)]
+pub struct Piece {
+    pub start: u32,
+    pub size: u32,
+}
+
+/// An antenna carrier. Its rate is `s` samples in `k` basic frames, each of I and Q in `m` bits. Its container
+/// is the bits of its pieces, one piece after another.
+#[derive(Debug, Drop)]
 pub struct Carrier {
     pub method: Method,
     pub s: u32,
     pub k: u32,
     pub m: u32,
-    pub start: u32,
-    pub size: u32,
+    pub pieces: PieceList,
+}
+
+impl Carrier {
+    /// The same carrier once more.
+    pub fn copy(&self, alloc: Global) -> Result<Carrier, NoMemory>
+        ensures { IfOk result (λ copy. copy ≡ self.now) }
+    {
+        Ok(Carrier {
+            method: self.method,
+            s: self.s,
+            k: self.k,
+            m: self.m,
+            pieces: self.pieces.copy(alloc)?,
+        })
+    }
 }
 
 /// A flow of packets, which carries the containers of its carriers, by their places in the plan, and the
@@ -54,6 +80,27 @@ pub struct Flow {
     pub q: u32,
 }
 
+impl Flow {
+    /// The same flow once more.
+    pub fn copy(&self, alloc: Global) -> Result<Flow, NoMemory>
+        ensures { IfOk result (λ copy. copy ≡ self.now) }
+    {
+        Ok(Flow {
+            id: self.id,
+            dst: self.dst,
+            src: self.src,
+            control: self.control,
+            carriers: self.carriers.copy(alloc)?,
+            frames: self.frames,
+            lmin: self.lmin,
+            lmax: self.lmax,
+            cap: self.cap,
+            p: self.p,
+            q: self.q,
+        })
+    }
+}
+
 /// A plan of a link: its line bit rate option, how it is carried in packets, the basic frames between a frame
 /// and its playout, and its carriers and flows in the order of the file.
 #[derive(Debug, Drop)]
@@ -63,4 +110,19 @@ pub struct Plan {
     pub playout: u32,
     pub carriers: CarrierList,
     pub flows: FlowList,
+}
+
+impl Plan {
+    /// The same plan once more.
+    pub fn copy(&self, alloc: Global) -> Result<Plan, NoMemory>
+        ensures { IfOk result (λ copy. copy ≡ self.now) }
+    {
+        Ok(Plan {
+            option: self.option,
+            mode: self.mode,
+            playout: self.playout,
+            carriers: self.carriers.copy(alloc)?,
+            flows: self.flows.copy(alloc)?,
+        })
+    }
 }

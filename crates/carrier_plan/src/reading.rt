@@ -2,15 +2,17 @@
 ghost use Rattle.std.specs.Prelude.{◌≡◌, Ok, Err, IfOk, IfErr, MatchResult, option_map};
 ghost use Rattle.toml.specs.Data.{get_member};
 ghost use Rattle.toml.specs.View.{view, table_view, items_view};
-ghost use Rattle.carrier_plan.specs.Keys.{key_of, number_of, known_version, method_numbered, mode_of, address_of, truth_of};
-ghost use Rattle.carrier_plan.specs.PlanOf.{value_at, number_at, version_at, method_at, mode_at, address_at, truth_at, are_integers, numbers_in, numbers_of, numbers_at, all_from, is_known, rate_in, container_in, carrier_in, carrier_of, carriers_of, ends_in, load_in, window_in, numbering_in, timing_in, flow_in, flow_of, flows_of, line_in, plan_in, plan_of, IsFaultOf, Gives};
+ghost use Rattle.carrier_plan.specs.Keys.{key_of, number_of, version_numbered, method_numbered, mode_of, address_of, truth_of, carrier_fields};
+ghost use Rattle.carrier_plan.specs.PlanOf.{value_at, number_at, version_at, method_at, mode_at, address_at, truth_at, are_integers, numbers_in, numbers_of, numbers_at, is_pair, piece_of, are_pairs, pieces_in, pieces_of, pieces_at, all_from, is_known, rate_in, piece_from, container_in, carrier_in, carrier_of, carriers_of, ends_in, load_in, window_in, numbering_in, timing_in, flow_in, flow_of, flows_of, line_in, plan_in, plan_of, IsFaultOf, Gives};
 ghost use Rattle.carrier_plan.specs.PlanOf as document;
 
 use crate::carrier_list::CarrierList;
 use crate::fault::{Field, Part, PlanText, ReadError, Spot};
 use crate::flow_list::FlowList;
 use crate::number_list::NumberList;
-use crate::plan::{Carrier, Flow, Method, Mode, Plan};
+use crate::piece_list::PieceList;
+use crate::plan::{Carrier, Flow, Method, Mode, Piece, Plan};
+use crate::version::Version;
 use hex::FromHex;
 use std::alloc::Global;
 use toml::{Table, Value};
@@ -34,6 +36,14 @@ const CARRIER_FIELDS: [Field; 6] = [
     Field::M,
     Field::Start,
     Field::Size,
+];
+
+const CARRIER_FIELDS_OF_PIECES: [Field; 5] = [
+    Field::Method,
+    Field::S,
+    Field::K,
+    Field::M,
+    Field::Pieces,
 ];
 
 const FLOW_FIELDS: [Field; 11] = [
@@ -109,11 +119,12 @@ fn number_at(table: &Table, spot: Spot) -> Result<u32, PlanText>
     number_of(value_at(table, spot)?, spot)
 }
 
-fn version_at(table: &Table, spot: Spot) -> Result<u32, PlanText>
+fn version_at(table: &Table, spot: Spot) -> Result<Version, PlanText>
     ensures { result ≡ version_at (table_view table.now) spot }
 {
     match number_at(table, spot)? {
-        1 => Ok(1),
+        1 => Ok(Version::One),
+        2 => Ok(Version::Two),
         _ => Err(PlanText::Value(spot)),
     }
 }
@@ -217,6 +228,68 @@ fn numbers_at(alloc: Global, table: &Table, spot: Spot) -> Result<NumberList, Re
     numbers_of(alloc, value_at(table, spot)?, spot)
 }
 
+fn is_pair(value: &Value) -> bool
+    ensures { result ≡ is_pair (view value.now) }
+{
+    let Value::Array(numbers) = value else {
+        return false;
+    };
+    if numbers.len() != 2 {
+        return false;
+    }
+    are_integers(numbers)
+}
+
+fn piece_of(value: &Value, spot: Spot) -> Result<Piece, PlanText>
+    ensures { result ≡ piece_of spot (view value.now) }
+{
+    let Value::Array(numbers) = value else {
+        return Err(PlanText::Kind(spot));
+    };
+    if numbers.len() != 2 {
+        return Err(PlanText::Kind(spot));
+    }
+    let start = number_of(&numbers[0], spot)?;
+    let size = number_of(&numbers[1], spot)?;
+    Ok(Piece { start, size })
+}
+
+fn are_pairs(values: &[Value]) -> bool
+    ensures { result ≡ are_pairs (items_view values.now) }
+{
+    for value in values {
+        if !is_pair(value) {
+            return false;
+        }
+    }
+    true
+}
+
+fn pieces_in(alloc: Global, values: &[Value], spot: Spot) -> Result<PieceList, ReadError>
+    ensures { Gives result (pieces_in spot (items_view values.now)) }
+{
+    let mut pieces = PieceList::new(alloc);
+    for value in values {
+        pieces.push(piece_of(value, spot)?)?;
+    }
+    Ok(pieces)
+}
+
+fn pieces_of(alloc: Global, value: &Value, spot: Spot) -> Result<PieceList, ReadError>
+    ensures { Gives result (pieces_of spot (view value.now)) }
+{
+    match value {
+        Value::Array(values) if are_pairs(values) => pieces_in(alloc, values, spot),
+        _ => Err(ReadError::Text(PlanText::Kind(spot))),
+    }
+}
+
+fn pieces_at(alloc: Global, table: &Table, spot: Spot) -> Result<PieceList, ReadError>
+    ensures { Gives result (pieces_at (table_view table.now) spot) }
+{
+    pieces_of(alloc, value_at(table, spot)?, spot)
+}
+
 fn has_extra(table: &Table, fields: &[Field]) -> bool
     ensures { result ≡ document.has_extra fields.now (table_view table.now) }
 {
@@ -240,47 +313,76 @@ fn rate_in(table: &Table, i: u32) -> Result<(u32, u32, u32), PlanText>
     Ok((s, k, m))
 }
 
-// `start` and `size`.
-#[tactic(auto, unfolding(crate::specs::PlanOf::container_in))]
-fn container_in(table: &Table, i: u32) -> Result<(u32, u32), PlanText>
-    ensures { result ≡ container_in i (table_view table.now) }
+// `start` and `size`, which are one piece.
+fn piece_from(alloc: Global, table: &Table, i: u32) -> Result<PieceList, ReadError>
+    ensures { Gives result (piece_from i (table_view table.now)) }
 {
     let start = number_at(table, of_carrier(i, Field::Start))?;
     let size = number_at(table, of_carrier(i, Field::Size))?;
-    Ok((start, size))
+    let mut pieces = PieceList::new(alloc);
+    pieces.push(Piece { start, size })?;
+    Ok(pieces)
+}
+
+// The pieces, as the version writes them.
+#[tactic(auto, unfolding(crate::specs::PlanOf::container_in))]
+fn container_in(
+    alloc: Global,
+    version: Version,
+    table: &Table,
+    i: u32,
+) -> Result<PieceList, ReadError>
+    ensures { Gives result (container_in version i (table_view table.now)) }
+{
+    match version {
+        Version::One => piece_from(alloc, table, i),
+        Version::Two => pieces_at(alloc, table, of_carrier(i, Field::Pieces)),
+    }
+}
+
+fn has_extra_of_carrier(table: &Table, version: Version) -> bool
+    ensures { result ≡ document.has_extra (carrier_fields version) (table_view table.now) }
+{
+    match version {
+        Version::One => has_extra(table, &CARRIER_FIELDS),
+        Version::Two => has_extra(table, &CARRIER_FIELDS_OF_PIECES),
+    }
 }
 
 #[tactic(auto, unfolding(crate::specs::PlanOf::carrier_in))]
-fn carrier_in(table: &Table, i: u32) -> Result<Carrier, PlanText>
-    ensures { result ≡ carrier_in i (table_view table.now) }
+fn carrier_in(alloc: Global, version: Version, table: &Table, i: u32) -> Result<Carrier, ReadError>
+    ensures { Gives result (carrier_in version i (table_view table.now)) }
 {
     let method = method_at(table, of_carrier(i, Field::Method))?;
     let (s, k, m) = rate_in(table, i)?;
-    let (start, size) = container_in(table, i)?;
-    if has_extra(table, &CARRIER_FIELDS) {
-        return Err(PlanText::Extra(Part::Carrier(i)));
+    let pieces = container_in(alloc, version, table, i)?;
+    if has_extra_of_carrier(table, version) {
+        return Err(ReadError::Text(PlanText::Extra(Part::Carrier(i))));
     }
     Ok(Carrier {
         method,
         s,
         k,
         m,
-        start,
-        size,
+        pieces,
     })
 }
 
-fn carrier_of(value: &Value, i: u32) -> Result<Carrier, PlanText>
-    ensures { result ≡ carrier_of i (view value.now) }
+fn carrier_of(alloc: Global, version: Version, value: &Value, i: u32) -> Result<Carrier, ReadError>
+    ensures { Gives result (carrier_of version i (view value.now)) }
 {
     match value {
-        Value::Table(table) => carrier_in(table, i),
-        _ => Err(PlanText::Kind(of_carrier(i, Field::Carrier))),
+        Value::Table(table) => carrier_in(alloc, version, table, i),
+        _ => Err(ReadError::Text(PlanText::Kind(of_carrier(i, Field::Carrier)))),
     }
 }
 
-fn carriers_from(alloc: Global, values: &[Value]) -> Result<CarrierList, ReadError>
-    ensures { Gives result (all_from carrier_of 0 (items_view values.now)) }
+fn carriers_from(
+    alloc: Global,
+    version: Version,
+    values: &[Value],
+) -> Result<CarrierList, ReadError>
+    ensures { Gives result (all_from (carrier_of version) 0 (items_view values.now)) }
 {
     let mut carriers = CarrierList::new(alloc);
     for (place, value) in values.iter().enumerate() {
@@ -288,17 +390,17 @@ fn carriers_from(alloc: Global, values: &[Value]) -> Result<CarrierList, ReadErr
         let Ok(i) = u32::try_from(place) else {
             return Err(ReadError::NoMemory);
         };
-        carriers.push(carrier_of(value, i)?)?;
+        carriers.push(carrier_of(alloc, version, value, i)?)?;
     }
     Ok(carriers)
 }
 
-fn carriers_of(alloc: Global, table: &Table) -> Result<CarrierList, ReadError>
-    ensures { Gives result (carriers_of (get_member (key_of Field.Carrier) (table_view table.now))) }
+fn carriers_of(alloc: Global, version: Version, table: &Table) -> Result<CarrierList, ReadError>
+    ensures { Gives result (carriers_of version (get_member (key_of Field.Carrier) (table_view table.now))) }
 {
     match member(table, Field::Carrier) {
         None => Ok(CarrierList::new(alloc)),
-        Some(Value::Array(values)) => carriers_from(alloc, values),
+        Some(Value::Array(values)) => carriers_from(alloc, version, values),
         Some(_) => Err(ReadError::Text(PlanText::Kind(top(Field::Carrier)))),
     }
 }
@@ -415,25 +517,25 @@ fn flows_of(alloc: Global, table: &Table) -> Result<FlowList, ReadError>
 
 // `version`, `option`, `mode` and `playout`.
 #[tactic(auto, unfolding(crate::specs::PlanOf::line_in))]
-fn line_in(table: &Table) -> Result<(u32, Mode, u32), PlanText>
+fn line_in(table: &Table) -> Result<(Version, u32, Mode, u32), PlanText>
     ensures { result ≡ line_in (table_view table.now) }
 {
-    version_at(table, top(Field::Version))?;
+    let version = version_at(table, top(Field::Version))?;
     let option = number_at(table, top(Field::LineOption))?;
     let mode = mode_at(table, top(Field::Mode))?;
     let playout = number_at(table, top(Field::Playout))?;
-    Ok((option, mode, playout))
+    Ok((version, option, mode, playout))
 }
 
 #[tactic(auto, unfolding(crate::specs::PlanOf::plan_in))]
 fn plan_in(alloc: Global, table: &Table) -> Result<Plan, ReadError>
     ensures { Gives result (plan_in (table_view table.now)) }
 {
-    let (option, mode, playout) = line_in(table)?;
+    let (version, option, mode, playout) = line_in(table)?;
     if has_extra(table, &TOP_FIELDS) {
         return Err(ReadError::Text(PlanText::Extra(Part::Top)));
     }
-    let carriers = carriers_of(alloc, table)?;
+    let carriers = carriers_of(alloc, version, table)?;
     let flows = flows_of(alloc, table)?;
     Ok(Plan {
         option,

@@ -15,6 +15,11 @@ const USUAL: &str =
 // Behind a good top.
 const TOP: &str = "version = 1\noption = 1\nmode = \"aware\"\nplayout = 0\n";
 
+const TOP_OF_PIECES: &str = "version = 2\noption = 1\nmode = \"aware\"\nplayout = 0\n";
+
+// A carrier without its container, behind a top.
+const CARRIER: &str = "[[carrier]]\nmethod = 1\ns = 1\nk = 1\nm = 8\n";
+
 // The line that tells of the fault.
 fn told(alloc: Global, octets: &[u8]) -> Result<String, AllocError> {
     match read(alloc, octets) {
@@ -31,17 +36,15 @@ fn a_plan_is_read(rt: HostRuntime) -> Result<(), Fail> {
     assert_eq!(rt; plan.mode, Mode::Bytes);
     assert_eq!(rt; plan.playout, 2);
     assert_eq!(rt; plan.carriers.len(), 1);
-    let carrier = Carrier {
-        method: Method::Sample,
-        s: 1,
-        k: 1,
-        m: 8,
-        start: 0,
-        size: 16,
-    };
-    assert_eq!(rt; *plan.carriers.at(0), carrier);
     assert!(rt; !plan.carriers.is_empty());
     assert_eq!(rt; plan.carriers.as_slice().len(), 1);
+    let carrier = plan.carriers.at(0);
+    assert_eq!(rt; carrier.method, Method::Sample);
+    assert_eq!(rt; [carrier.s, carrier.k, carrier.m], [1, 1, 8]);
+    // A container by `start` and `size` is one piece.
+    assert_eq!(rt; carrier.pieces.len(), 1);
+    assert!(rt; !carrier.pieces.is_empty());
+    assert_eq!(rt; carrier.pieces.at(0), Piece { start: 0, size: 16 });
     Ok(())
 }
 
@@ -71,7 +74,9 @@ fn the_first_fault_of_the_top_is_named(rt: HostRuntime) -> Result<(), Fail> {
         ("", "plan missing version"),
         ("rate = 1\nmode = 7\n", "plan missing version"),
         ("version = 1.0\n", "plan kind version"),
-        ("version = 2\n", "plan value version"),
+        ("version = 0\n", "plan value version"),
+        ("version = 3\n", "plan value version"),
+        ("version = 2\n", "plan missing option"),
         ("version = 1\n", "plan missing option"),
         ("version = 1\noption = \"1\"\n", "plan kind option"),
         ("version = 1\noption = -1\n", "plan value option"),
@@ -136,6 +141,110 @@ fn the_first_fault_behind_a_good_top_is_named(rt: HostRuntime) -> Result<(), Fai
         ),
     ] {
         let text = format!(in rt.alloc(); "{TOP}{rest}")?;
+        assert_eq!(rt;
+            told(rt.alloc(), text.as_bytes())?.as_str(),
+            line,
+            "at {rest}"
+        );
+    }
+    Ok(())
+}
+
+#[test]
+fn pieces_are_read(rt: HostRuntime) -> Result<(), Fail> {
+    let text = format!(in rt.alloc(); "{TOP_OF_PIECES}{CARRIER}pieces = [[0, 10], [100, 6]]\n")?;
+    let plan = read(rt.alloc(), text.as_bytes())?;
+    assert_eq!(rt; plan.carriers.len(), 1);
+    let pieces = [
+        Piece { start: 0, size: 10 },
+        Piece {
+            start: 100,
+            size: 6,
+        },
+    ];
+    assert_eq!(rt; plan.carriers.at(0).pieces.as_slice(), pieces.as_slice());
+    // They stay the same through a copy and through text.
+    let copy = plan.copy(rt.alloc())?;
+    assert_eq!(rt; copy.carriers.len(), 1);
+    assert_eq!(rt; copy.carriers.at(0).pieces.as_slice(), pieces.as_slice());
+    let printed = print(rt.alloc(), &copy)?;
+    let back = read(rt.alloc(), &printed)?;
+    assert_eq!(rt; back.carriers.len(), 1);
+    assert_eq!(rt; back.carriers.at(0).pieces.as_slice(), pieces.as_slice());
+    Ok(())
+}
+
+#[test]
+fn the_first_fault_of_a_container_is_named(rt: HostRuntime) -> Result<(), Fail> {
+    for (top, rest, line) in [
+        (TOP, "start = 0\nsize = 16\n", "a plan"),
+        (TOP, "pieces = [[0, 16]]\n", "plan missing carrier 0 start"),
+        (
+            TOP,
+            "start = 0\nsize = 16\npieces = [[0, 16]]\n",
+            "plan extra carrier 0",
+        ),
+        (
+            TOP_OF_PIECES,
+            "start = 0\nsize = 16\n",
+            "plan missing carrier 0 pieces",
+        ),
+        (
+            TOP_OF_PIECES,
+            "pieces = [[0, 16]]\nstart = 0\n",
+            "plan extra carrier 0",
+        ),
+        (
+            TOP_OF_PIECES,
+            "pieces = [[0, 16]]\nsize = 16\n",
+            "plan extra carrier 0",
+        ),
+        // How many pieces there are and how long they are is for the rules.
+        (TOP_OF_PIECES, "pieces = []\n", "a plan"),
+        (
+            TOP_OF_PIECES,
+            "pieces = [[0, 0], [0, 4], [4, 4], [8, 4], [12, 4]]\n",
+            "a plan",
+        ),
+        (TOP_OF_PIECES, "pieces = 16\n", "plan kind carrier 0 pieces"),
+        (
+            TOP_OF_PIECES,
+            "pieces = [0, 16]\n",
+            "plan kind carrier 0 pieces",
+        ),
+        (
+            TOP_OF_PIECES,
+            "pieces = [[0, 10], [100]]\n",
+            "plan kind carrier 0 pieces",
+        ),
+        (
+            TOP_OF_PIECES,
+            "pieces = [[0, 10, 1]]\n",
+            "plan kind carrier 0 pieces",
+        ),
+        (
+            TOP_OF_PIECES,
+            "pieces = [[0, \"10\"]]\n",
+            "plan kind carrier 0 pieces",
+        ),
+        // The kinds of all elements are tried before their values.
+        (
+            TOP_OF_PIECES,
+            "pieces = [[-1, 10], [100, 6.0]]\n",
+            "plan kind carrier 0 pieces",
+        ),
+        (
+            TOP_OF_PIECES,
+            "pieces = [[0, 10], [100, -6]]\n",
+            "plan value carrier 0 pieces",
+        ),
+        (
+            TOP_OF_PIECES,
+            "pieces = [[4294967296, 16]]\n",
+            "plan value carrier 0 pieces",
+        ),
+    ] {
+        let text = format!(in rt.alloc(); "{top}{CARRIER}{rest}")?;
         assert_eq!(rt;
             told(rt.alloc(), text.as_bytes())?.as_str(),
             line,
@@ -220,8 +329,11 @@ fn a_plan_that_is_printed_is_read_back(rt: HostRuntime) -> Result<(), Fail> {
     assert_eq!(rt; back.mode, Mode::Bytes);
     assert_eq!(rt; back.playout, 33);
     assert_eq!(rt; back.carriers.len(), 2);
-    assert_eq!(rt; back.carriers.at(0).start, 0);
-    assert_eq!(rt; back.carriers.at(1).start, 240);
+    let pieces = [Piece {
+        start: 240,
+        size: 240,
+    }];
+    assert_eq!(rt; back.carriers.at(1).pieces.as_slice(), pieces.as_slice());
     assert_eq!(rt; back.carriers.at(1).method, Method::Compatible);
     assert_eq!(rt; back.flows.len(), 1);
     let flow = back.flows.at(0);

@@ -6,4 +6,4 @@ use Rattle.carrier_plan.proofs.reading.carriers_from.Given as goal
 
 -- the carriers so far, before what is read of the rest, are what is read of all
 abbrev pub invariant-loop-place : goal.invariant-loop-place
-invariant-loop-place l = with_front l.carriers (all_from carrier_of l.place (items_view (drop l.place l.values))) ≡ all_from carrier_of 0 (items_view l.values)
+invariant-loop-place l = with_front l.carriers (all_from (carrier_of l.version) l.place (items_view (drop l.place l.values))) ≡ all_from (carrier_of l.version) 0 (items_view l.values)
