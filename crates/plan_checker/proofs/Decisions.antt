@@ -10,16 +10,18 @@ use Rattle.carrier_plan.specs.declared.plan.Carrier.{Carrier}
 use Rattle.carrier_plan.specs.declared.plan.Flow.{Flow}
 use Rattle.carrier_plan.specs.declared.plan.Mode.{Mode}
 use Rattle.carrier_plan.specs.declared.plan.Mode.TheVariants.{Tunnel, Bytes, Aware}
+use Rattle.carrier_plan.specs.declared.plan.Piece.{Piece}
 use Rattle.carrier_plan.specs.declared.plan.Plan.{Plan}
 use Rattle.plan_checker.specs.WordSize.{iq_bits}
-use Rattle.plan_checker.specs.SampleRate.{IsCoprime, HasSampleRate, HasSampleWidth}
-use Rattle.plan_checker.specs.Container.{HoldsBit, SharesNoBit, HasPrescribedSize, LiesWithin, prescribed_size}
-use Rattle.plan_checker.specs.Window.{most_held}
+use Rattle.sample_bits.specs.SampleRate.{IsCoprime}
+use Rattle.plan_checker.specs.SampleRate.{HasSampleRate, HasSampleWidth}
+use Rattle.plan_checker.specs.Container.{IsInPiece, SharesNoBit, SharesNoPiece, HasPrescribedSize, HasSeparateBits, LiesWithin, container_size, prescribed_size}
+use Rattle.link_base.specs.Window.{most_held}
 use Rattle.plan_checker.specs.Flows.{CarriesWholeFrames, IsOneWholeFlow, SharesOutCarriers, HasPayload, lists, octets_of_frame}
 use Rattle.plan_checker.specs.Timing.{HasWindow, IsPlayedInTime, HasSequenceNumbers, HasRoom}
 use Rattle.plan_checker.specs.Rules.{Rule, HasCounts, Holds, IsMetBelow, number_of, item_count}
 use Rattle.plan_checker.specs.Rules.Rule.{LineOption, Counts, WholeFrames, SampleRate, SampleWidth, ContainerSize, ContainerEnd, SeparateBits, SharedOut, PayloadSize, ArrivalWindow, PlayedInTime, SequenceNumbers, BufferRoom}
-use Rattle.plan_checker.specs.Verdict.{all_below, test_at, divides, is_coprime, has_sample_rate, has_sample_width, holds_bit, shares_no_bit, has_counts, is_count_to, is_one_whole_flow, carries_whole_frames, has_distinct_ids, is_ascending, shares_out_carriers, has_payload, has_window, is_played_in_time, has_sequence_numbers, has_room, holds}
+use Rattle.plan_checker.specs.Verdict.{all_below, test_at, divides, is_coprime, has_sample_rate, has_sample_width, has_prescribed_size, lies_within, is_in_piece, shares_no_bit, has_separate_pieces, shares_no_piece, has_separate_bits, has_counts, is_count_to, is_one_whole_flow, carries_whole_frames, has_distinct_ids, is_ascending, shares_out_carriers, has_payload, has_window, is_played_in_time, has_sequence_numbers, has_room, holds}
 use Rattle.plan_checker.proofs.Counting.{range-from_places, places-from_range}
 use Rattle.plan_checker.proofs.Held.{IsMostHeld-quotient}
 
@@ -92,22 +94,65 @@ Decides-has_sample_rate c =
 pub Decides-has_sample_width : (c : Carrier) → Decides (has_sample_width c) (HasSampleWidth c)
 Decides-has_sample_width c = Decides-and _ _ (Decides-leb 4 c.m) (Decides-leb c.m 20)
 
-Decides-holds_bit : (c : Carrier) (x : ℕ) → Decides (holds_bit c x) (HoldsBit c x)
-Decides-holds_bit c x = Decides-and _ _ (Decides-leb c.start x) (Decides-ltb x (c.start + c.size))
+Decides-is_in_piece : (x : ℕ) (p : Piece) → Decides (is_in_piece x p) (IsInPiece x p)
+Decides-is_in_piece x p = Decides-and _ _ (Decides-leb p.start x) (Decides-ltb x (p.start + p.size))
 
-pub Decides-shares_no_bit : (a b : Carrier) → Decides (shares_no_bit a b) (SharesNoBit a b)
+pub Decides-shares_no_bit : (a b : Piece) → Decides (shares_no_bit a b) (SharesNoBit a b)
 Decides-shares_no_bit a b =
     Decides-like _
     (λ h. record { apart = λ x in_a in_b. h x in_a.1 in_a in_b })
     (λ h x _. h.apart x)
-    (Decides-all_below _ (λ x. HoldsBit a x → ¬ HoldsBit b x) (a.start + a.size) (λ x _. Decides-not_both _ _ (Decides-holds_bit a x) (Decides-holds_bit b x)))
+    (Decides-all_below _ (λ x. IsInPiece x a → ¬ IsInPiece x b) (a.start + a.size) (λ x _. Decides-not_both _ _ (Decides-is_in_piece x a) (Decides-is_in_piece x b)))
 
-Decides-separate : (cs : List Carrier) (c : Carrier) (i : ℕ) → i < length cs → Decides (all_below (λ j. test_at (λ earlier. shares_no_bit earlier c) cs j) i) (AllWithin (λ earlier. SharesNoBit earlier c) cs 0 i)
-Decides-separate cs c i lt =
+pub Decides-list_all : {X : Type 0} (test : X → Bool) (P : X → Type 0) → ((x : X) → Decides (test x) (P x)) → (xs : List X) → Decides (list_all test xs) (All P xs)
+Decides-list_all test P each xs = Decides-by_and test P (list_all test) each refl (λ _ _. refl) xs
+
+AllPairs-cons : {X : Type 0} (R : X → X → Type 0) (x : X) (xs : List X) → All (R x) xs → AllPairs R xs → AllPairs R (x ∷ xs)
+AllPairs-cons R x xs here rest zero zero d lt in_range = absurd (omega arith)
+AllPairs-cons R x xs here rest zero (suc j) d lt in_range = here j d (omega arith)
+AllPairs-cons R x xs here rest (suc i) zero d lt in_range = absurd (omega arith)
+AllPairs-cons R x xs here rest (suc i) (suc j) d lt in_range = rest i j d (omega arith) (omega arith)
+
+Decides-has_prescribed_size : (c : Carrier) → Decides (has_prescribed_size c) (HasPrescribedSize c)
+Decides-has_prescribed_size c =
+    Decides-like _
+    (λ h. record { some_pieces = h.0; few_pieces = h.1.0; no_empty_piece = h.1.1.0; prescribed = h.1.1.1 })
+    (λ h. (h.some_pieces, (h.few_pieces, (h.no_empty_piece, h.prescribed))))
+    (Decides-and _ _ (Decides-leb 1 (length c.pieces)) (Decides-and _ _ (Decides-leb (length c.pieces) 4) (Decides-and _ _
+    (Decides-list_all _ (λ (p : Piece). 1 ≤ p.size) (λ p. Decides-leb 1 p.size) c.pieces)
+    (Decides-eqb (container_size c) (prescribed_size c)))))
+
+Decides-lies_within : (n : ℕ) (c : Carrier) → Decides (lies_within n c) (LiesWithin n c)
+Decides-lies_within n c = Decides-list_all _ (λ (p : Piece). p.start + p.size ≤ n) (λ p. Decides-leb (p.start + p.size) n) c.pieces
+
+Decides-has_separate_pieces : (ps : List Piece) → Decides (has_separate_pieces ps) (AllPairs SharesNoBit ps)
+Decides-has_separate_pieces [] = (λ _ i j d lt in_range. absurd (omega arith), λ _. refl)
+Decides-has_separate_pieces (p ∷ ps) =
+    Decides-like _
+    (λ h. AllPairs-cons SharesNoBit p ps h.0 h.1)
+    (λ h. (λ j d lt. h 0 (suc j) d (omega arith) (omega arith), λ i j d lt in_range. h (suc i) (suc j) d (omega arith) (omega arith)))
+    (Decides-and _ _ (Decides-list_all _ (SharesNoBit p) (Decides-shares_no_bit p) ps) (Decides-has_separate_pieces ps))
+
+Decides-shares_no_piece : (earlier pieces : List Piece) → Decides (shares_no_piece earlier pieces) (SharesNoPiece earlier pieces)
+Decides-shares_no_piece earlier pieces =
+    Decides-like _
+    (λ h. record { apart = h })
+    (λ h. h.apart)
+    (Decides-list_all _ (λ a. All (SharesNoBit a) pieces) (λ a. Decides-list_all _ (SharesNoBit a) (Decides-shares_no_bit a) pieces) earlier)
+
+Decides-apart : (cs : List Carrier) (c : Carrier) (i : ℕ) → i < length cs → Decides (all_below (λ j. test_at (λ earlier. shares_no_piece earlier.pieces c.pieces) cs j) i) (AllWithin (λ earlier. SharesNoPiece earlier.pieces c.pieces) cs 0 i)
+Decides-apart cs c i lt =
     Decides-like _
     (λ h k d _ below. h k below d)
     (λ h k below d. h k d (omega arith) below)
-    (Decides-all_below _ (HoldsAt (λ earlier. SharesNoBit earlier c) cs) i (λ k below. Decides-test_at _ (λ earlier. SharesNoBit earlier c) (λ earlier. Decides-shares_no_bit earlier c) cs k (omega arith)))
+    (Decides-all_below _ (HoldsAt (λ earlier. SharesNoPiece earlier.pieces c.pieces) cs) i (λ k below. Decides-test_at _ (λ earlier. SharesNoPiece earlier.pieces c.pieces) (λ earlier. Decides-shares_no_piece earlier.pieces c.pieces) cs k (omega arith)))
+
+Decides-has_separate_bits : (cs : List Carrier) (i : ℕ) → i < length cs → (c : Carrier) → Decides (has_separate_bits cs i c) (HasSeparateBits cs i c)
+Decides-has_separate_bits cs i lt c =
+    Decides-like _
+    (λ h. record { own = h.0; others = h.1 })
+    (λ h. (h.own, h.others))
+    (Decides-and _ _ (Decides-has_separate_pieces c.pieces) (Decides-apart cs c i lt))
 
 Decides-has_counts : (p : Plan) → Decides (has_counts p) (HasCounts p)
 Decides-has_counts p =
@@ -115,9 +160,6 @@ Decides-has_counts p =
     (λ h. record { some_carriers = h.0; few_carriers = h.1.0; some_flows = h.1.1.0; few_flows = h.1.1.1 })
     (λ h. (h.some_carriers, (h.few_carriers, (h.some_flows, h.few_flows))))
     (Decides-and _ _ (Decides-leb 1 (length p.carriers)) (Decides-and _ _ (Decides-leb (length p.carriers) 64) (Decides-and _ _ (Decides-leb 1 (length p.flows)) (Decides-leb (length p.flows) 8))))
-
-pub Decides-list_all : {X : Type 0} (test : X → Bool) (P : X → Type 0) → ((x : X) → Decides (test x) (P x)) → (xs : List X) → Decides (list_all test xs) (All P xs)
-Decides-list_all test P each xs = Decides-by_and test P (list_all test) each refl (λ _ _. refl) xs
 
 Decides-itself : (b : Bool) → Decides b (IsTrue b)
 Decides-itself b = (λ e. e, λ e. e)
@@ -142,12 +184,6 @@ Decides-carries_whole_frames : (mode : Mode) (flows : List Flow) (n : ℕ) → D
 Decides-carries_whole_frames Tunnel flows n = Decides-is_one_whole_flow flows n
 Decides-carries_whole_frames Bytes flows n = Decides-is_one_whole_flow flows n
 Decides-carries_whole_frames Aware flows n = (λ _. tt, λ _. refl)
-
-AllPairs-cons : {X : Type 0} (R : X → X → Type 0) (x : X) (xs : List X) → All (R x) xs → AllPairs R xs → AllPairs R (x ∷ xs)
-AllPairs-cons R x xs here rest zero zero d lt in_range = absurd (omega arith)
-AllPairs-cons R x xs here rest zero (suc j) d lt in_range = here j d (omega arith)
-AllPairs-cons R x xs here rest (suc i) zero d lt in_range = absurd (omega arith)
-AllPairs-cons R x xs here rest (suc i) (suc j) d lt in_range = rest i j d (omega arith) (omega arith)
 
 Decides-has_distinct_ids : (flows : List Flow) → Decides (has_distinct_ids flows) (AllPairs (λ f g. f.id ≢ g.id) flows)
 Decides-has_distinct_ids [] = (λ _ i j d lt in_range. absurd (omega arith), λ _. refl)
@@ -224,9 +260,9 @@ Decides-holds p Counts met i lt = Decides-has_counts p
 Decides-holds p WholeFrames met i lt = Decides-carries_whole_frames p.mode p.flows (length p.carriers)
 Decides-holds p SampleRate met i lt = Decides-test_at has_sample_rate HasSampleRate Decides-has_sample_rate p.carriers i lt
 Decides-holds p SampleWidth met i lt = Decides-test_at has_sample_width HasSampleWidth Decides-has_sample_width p.carriers i lt
-Decides-holds p ContainerSize met i lt = Decides-test_at _ HasPrescribedSize (λ c. Decides-eqb c.size (prescribed_size c)) p.carriers i lt
-Decides-holds p ContainerEnd met i lt = Decides-test_at _ (LiesWithin (iq_bits p.option)) (λ c. Decides-leb (c.start + c.size) (iq_bits p.option)) p.carriers i lt
-Decides-holds p SeparateBits met i lt = Decides-test_at _ (λ c. AllWithin (λ earlier. SharesNoBit earlier c) p.carriers 0 i) (λ c. Decides-separate p.carriers c i lt) p.carriers i lt
+Decides-holds p ContainerSize met i lt = Decides-test_at has_prescribed_size HasPrescribedSize Decides-has_prescribed_size p.carriers i lt
+Decides-holds p ContainerEnd met i lt = Decides-test_at _ (LiesWithin (iq_bits p.option)) (Decides-lies_within (iq_bits p.option)) p.carriers i lt
+Decides-holds p SeparateBits met i lt = Decides-test_at _ (HasSeparateBits p.carriers i) (Decides-has_separate_bits p.carriers i lt) p.carriers i lt
 Decides-holds p SharedOut met i lt = Decides-shares_out_carriers p.flows (length p.carriers)
 Decides-holds p PayloadSize met i lt = Decides-test_at _ (HasPayload p) (Decides-has_payload p) p.flows i lt
 Decides-holds p ArrivalWindow met i lt = Decides-test_at _ HasWindow Decides-has_window p.flows i lt

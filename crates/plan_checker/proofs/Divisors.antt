@@ -3,7 +3,7 @@ use Rattle.std.proofs.Common.{◌≡◌, ◌↔◌, ℕ, ◌<◌, arith, subst}
 use Rattle.std.specs.Int.{IsGcd, ◌∣◌}
 use Rattle.std.proofs.Math.Nat.{eq-zero_of_zero-dvd}
 use Rattle.std.proofs.lemmas.Nat.Gcd.{dvd_antisymm, dvd_of_mod-eq-zero}
-use Rattle.plan_checker.specs.SampleRate.{IsCoprime}
+use Rattle.sample_bits.specs.SampleRate.{IsCoprime}
 
 one_dvd : (n : ℕ) → 1 ∣ n
 one_dvd n = dvd_of_mod-eq-zero 1 (omega arith)

@@ -3,7 +3,7 @@ use Rattle.std.proofs.Common.{◌≡◌, slice_get, slice_index, Some, ap, ◌�
 use Rattle.std.proofs.lemmas.Nat.{div-add-mod', mod_below, div_below, le-div, mul-le}
 use Rattle.carrier_plan.specs.declared.plan.Carrier.{Carrier}
 use Rattle.carrier_plan.specs.declared.plan.Plan.{Plan}
-use Rattle.plan_checker.specs.Count.{HasCount}
+use Rattle.link_base.specs.Count.{HasCount}
 use Rattle.plan_checker.specs.Run.{IsDue, block_lengths, block_samples, samples_before, samples_due}
 use Rattle.plan_checker.proofs.Counting.{HasCount-range}
 use Rattle.plan_checker.proofs.Places.{carrier_number}

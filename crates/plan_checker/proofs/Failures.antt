@@ -38,7 +38,7 @@ rule_of-number_of PlayedInTime = refl
 rule_of-number_of SequenceNumbers = refl
 rule_of-number_of BufferRoom = refl
 
-same_rule : (r s : Rule) → number_of r ≡ number_of s → r ≡ s
+pub same_rule : (r s : Rule) → number_of r ≡ number_of s → r ≡ s
 same_rule r s e = sym (rule_of-number_of r) ∙ (ap rule_of e ∙ rule_of-number_of s)
 
 number_of-below : (r : Rule) → number_of r < 15

@@ -5,8 +5,8 @@ use Rattle.std.proofs.lemmas.Bool.{cases_lt}
 use Rattle.std.proofs.lemmas.Nat.{mul-le}
 use Rattle.std.proofs.lemmas.Grind.{div_ceil_times}
 use Rattle.std.proofs.lemmas.List.Elements.{Contains-get_or}
-use Rattle.plan_checker.specs.Count.{HasCount}
-use Rattle.plan_checker.specs.Window.{IsHeld, most_held, IsMostHeld}
+use Rattle.link_base.specs.Count.{HasCount}
+use Rattle.link_base.specs.Window.{IsHeld, most_held, IsMostHeld}
 use Rattle.plan_checker.proofs.Counting.{above_first, length-ascending, HasCount-range}
 
 -- two packets that are held at one tick are not further apart than what the first may be early

@@ -9,3 +9,5 @@ pub mod Separate
 pub mod Distinct
 pub mod Places
 pub mod Due
+pub mod IqBits
+pub mod Samples

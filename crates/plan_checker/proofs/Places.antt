@@ -7,10 +7,10 @@ use Rattle.carrier_plan.specs.declared.plan.Flow.{Flow}
 use Rattle.carrier_plan.specs.declared.plan.Plan.{Plan}
 use Rattle.plan_checker.specs.SampleRate.{HasSampleRate}
 use Rattle.plan_checker.specs.Flows.{octets_of_frame}
-use Rattle.plan_checker.specs.Window.{IsMostHeld, most_held}
+use Rattle.link_base.specs.Window.{IsMostHeld, most_held}
 use Rattle.plan_checker.specs.Run.{frame_octets_of, least_delays, packet_frames, packets_held}
 use Rattle.plan_checker.specs.Rules.{IsGood, IsMetBelow}
-use Rattle.plan_checker.specs.Rules.Rule.{Counts, SampleRate, SharedOut, PayloadSize, ArrivalWindow, PlayedInTime}
+use Rattle.plan_checker.specs.Rules.Rule.{Counts, SampleRate, ContainerSize, SharedOut, PayloadSize, ArrivalWindow, PlayedInTime}
 use Rattle.plan_checker.proofs.Counting.{length-ascending_below}
 use Rattle.plan_checker.proofs.Divisors.{not_zero_from_dvd}
 
@@ -56,6 +56,16 @@ at_item_of P xs ys i x same e h = at_item P ys i x e (subst (λ zs. HoldsAt P zs
 pub item_holds : {A : Type 0} (P : A → Type 0) (xs ys : List A) (i : ℕ) (x : A) → ys ≡ xs → i < length ys → x ≡ get_or ys i x → P x → HoldsAt P xs i
 item_holds P xs ys i x same lt e h = subst (λ zs. HoldsAt P zs i) same (at_read ys P i x lt e h)
 
+-- an item that was read holds at its place
+pub holds_at : {A : Type 0} (P : A → Type 0) (xs : List A) (i : ℕ) (x : A) → slice_get xs i ≡ Some x → P x → HoldsAt P xs i
+holds_at P [] i x e h = cc
+holds_at P (y ∷ ys) zero x e h = let same : y ≡ x = cc in λ d. subst P (sym same) h
+holds_at P (y ∷ ys) (suc i) x e h = holds_at P ys i x e h
+
+-- the containers are in a few pieces each
+pub few_pieces : (p : Plan) → IsMetBelow p 10 → All (λ (c : Carrier). length c.pieces ≤ 4) p.carriers
+few_pieces p met i d lt = (met ContainerSize (omega arith) i lt d).few_pieces
+
 pub within_of : {A : Type 0} (xs ys : List A) (i : ℕ) → ys ≡ xs → i < length ys → i < length xs
 within_of xs ys i same lt = subst (λ zs. i < length zs) same lt
 
@@ -72,6 +82,9 @@ module _ (p q : Plan) (same : p ≡ q) where
 
   pub flow_number : (f : Flow → ℕ) (i : ℕ) (x : Flow) → slice_get p.flows i ≡ Some x → f x ≡ slice_index (map f q.flows) i
   flow_number f i x e = subst (λ r. f x ≡ slice_index (map f r.flows) i) same (sym (number_at f p.flows i x e))
+
+  pub flow_holds : (P : Flow → Type 0) (i : ℕ) (x : Flow) → slice_get p.flows i ≡ Some x → P x → HoldsAt P q.flows i
+  flow_holds P i x e h = subst (λ r. HoldsAt P r.flows i) same (holds_at P p.flows i x e h)
 
   pub octets_number : (i : ℕ) (x : Flow) → slice_get p.flows i ≡ Some x → octets_of_frame p x ≡ frame_octets_of q i
   octets_number i x e = subst (λ r. octets_of_frame p x ≡ frame_octets_of r i) same (sym (number_at (octets_of_frame p) p.flows i x e))

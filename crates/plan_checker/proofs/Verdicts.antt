@@ -1,49 +1,61 @@
--- The plain program gives the first failure.
-use Rattle.std.proofs.Common.{◌≡◌, ℕ, ◌<◌, Bool, true, false, List, [], ◌∷◌, zero, suc, Some, None, arith, refl, sym, subst, ◌∙◌, Decides, inl, inr}
-use Rattle.std.proofs.lemmas.Bool.{cases_lt}
+-- The plain program gives the first failure, and nothing else.
+use Rattle.std.proofs.Common.{◌≡◌, ◌⊎◌, ℕ, ◌+◌, ◌<◌, Bool, true, false, zero, suc, Option, Some, None, List, [], ◌∷◌, arith, refl, sym, subst, ◌∙◌, ap, cond, Decides, inl, inr}
+use Rattle.std.proofs.lemmas.Bool.{cases_lt, cases_order, false≢true}
+use Rattle.std.specs.Option.{option_or}
 use Rattle.carrier_plan.specs.declared.plan.Plan.{Plan}
-use Rattle.plan_checker.specs.Rules.{Rule, number_of, IsMet, IsMetBelow, IsGood, FailsFirstAt, IsFirstFailure, item_count}
+use Rattle.plan_checker.specs.Rules.{Rule, Holds, number_of, IsMet, IsMetBelow, IsGood, FailsFirstAt, IsFirstFailure, item_count}
 use Rattle.plan_checker.specs.Rules.Rule.{LineOption, Counts, WholeFrames, SampleRate, SampleWidth, ContainerSize, ContainerEnd, SeparateBits, SharedOut, PayloadSize, ArrivalWindow, PlayedInTime, SequenceNumbers, BufferRoom}
-use Rattle.plan_checker.specs.Verdict.{first_false, holds, verdict_by, verdict_of}
+use Rattle.plan_checker.specs.Verdict.{Verdict, first_false, failing_or, holds, verdict_by, verdict_of}
 use Rattle.plan_checker.specs.Verdict.Verdict.{Good, Fails}
+use Rattle.plan_checker.specs.Laws.{VerdictIsComputed, FailureIsUnique}
 use Rattle.plan_checker.proofs.Decisions.{Decides-holds}
+use Rattle.plan_checker.proofs.Failures.{good_from_met, met_below_1, met_below_next, same_rule}
 
-first_false-none : (test : ℕ → Bool) (n : ℕ) → ((k : ℕ) → k < n → test k ≡ true) → first_false test n ≡ None
-first_false-none test zero h = refl
-first_false-none test (suc n) h =
-    let below = first_false-none test n (λ k lt. h k (omega arith)) in
-    let here = h n (omega arith) in
-    rw (below, here) refl
+-- the least number at which a test does not pass, or that there is none
+abbrev IsFirstFalse : (ℕ → Bool) → ℕ → Option ℕ → Type 0
+IsFirstFalse test n None = (k : ℕ) → k < n → test k ≡ true
+IsFirstFalse test n (Some i) = (i < n) × (test i ≡ false) × ((k : ℕ) → k < i → test k ≡ true)
 
-first_false-some : (test : ℕ → Bool) (n i : ℕ) → i < n → test i ≡ false → ((k : ℕ) → k < i → test k ≡ true) → first_false test n ≡ Some i
-first_false-some test zero i lt fails before = absurd (omega arith)
-first_false-some test (suc n) i lt fails before =
-    elim (cases_lt i n) [
-      | inl less ↦ let below = first_false-some test n i less fails before in rw below refl
-      | inr more ↦
-          let same : i ≡ n = omega arith in
-          let below = first_false-none test n (λ k lt. before k (omega arith)) in
-          let here : test n ≡ false = subst (λ k. test k ≡ false) same fails in
-          rw (below, here, same) refl
+first_false_more : (test : ℕ → Bool) (n : ℕ) (found : Option ℕ) (b : Bool) → IsFirstFalse test n found → test n ≡ b → IsFirstFalse test (suc n) (option_or found (cond b None (Some n)))
+first_false_more test n (Some i) b h e = (omega (arith, h.0), h.1, h.2)
+first_false_more test n None true h e =
+    λ k lt. elim (cases_lt k n) [
+      | inl less ↦ h k less
+      | inr more ↦ let same : n ≡ k = omega arith in subst (λ j. test j ≡ true) same e
     ]
+first_false_more test n None false h e = (omega arith, e, h)
 
-false_from_not : {P : Type 0} (b : Bool) → Decides b P → ¬ P → b ≡ false
-false_from_not true d h = absurd (h (d.0 refl))
-false_from_not false d h = refl
+first_false-is : (test : ℕ → Bool) (n : ℕ) → IsFirstFalse test n (first_false test n)
+first_false-is test zero = λ k lt. absurd (omega arith)
+first_false-is test (suc n) = first_false_more test n (first_false test n) (test n) (first_false-is test n) refl
 
--- a rule that holds leaves the verdict to the rules after it
-skip : (p : Plan) (r : Rule) (rs : List Rule) → IsMetBelow p (number_of r) → IsMet p r → verdict_by p (r ∷ rs) ≡ verdict_by p rs
-skip p r rs below met =
-    let none = first_false-none (holds p r) (item_count p r) (λ k lt. (Decides-holds p r below k lt).1 (met k lt)) in
-    rw none refl
+-- what a verdict says of the plan
+abbrev Outcome : Plan → Verdict → Type 0
+Outcome p v = (IsGood p × (v ≡ Good)) ⊎ ((n : ℕ) × (i : ℕ) × IsFirstFailure p n i × (v ≡ Fails n i))
 
--- a rule that fails gives it
-stop : (p : Plan) (r : Rule) (rs : List Rule) (i : ℕ) → IsMetBelow p (number_of r) → FailsFirstAt p r i → verdict_by p (r ∷ rs) ≡ Fails (number_of r) i
-stop p r rs i below f =
-    let in_range : i < item_count p r = f.in_range in
-    let fails = false_from_not (holds p r i) (Decides-holds p r below i in_range) f.fails in
-    let some = first_false-some (holds p r) (item_count p r) i in_range fails (λ k lt. (Decides-holds p r below k (omega arith)).1 (f.before k lt)) in
-    rw some refl
+outcome_by : (p : Plan) (r : Rule) (later : Verdict) (found : Option ℕ) → IsMetBelow p (number_of r) → IsFirstFalse (holds p r) (item_count p r) found → (IsMet p r → Outcome p later) → Outcome p (failing_or (number_of r) found later)
+outcome_by p r later None below h rest = rest (λ i lt. (Decides-holds p r below i lt).0 (h i lt))
+outcome_by p r later (Some i) below h rest =
+    inr (
+      number_of r,
+      i,
+      record {
+        rule = r;
+        numbered = refl;
+        fails = record {
+          in_range = h.0;
+          fails = λ yes. false≢true (sym h.1 ∙ (Decides-holds p r below i h.0).1 yes);
+          before = λ k lt. (Decides-holds p r below k (omega (arith, h.0))).0 (h.2 k lt);
+        };
+        before = below;
+      },
+      refl,
+    )
+
+-- one rule, and those after it
+outcome_of_rule : (p : Plan) (r : Rule) (rs : List Rule) → IsMetBelow p (number_of r) → (IsMetBelow p (number_of r + 1) → Outcome p (verdict_by p rs)) → Outcome p (verdict_by p (r ∷ rs))
+outcome_of_rule p r rs below rest =
+    outcome_by p r (verdict_by p rs) (first_false (holds p r) (item_count p r)) below (first_false-is (holds p r) (item_count p r)) (λ met. rest (met_below_next p r below met))
 
 -- the rules from each number on
 abbrev from_14 : List Rule
@@ -88,78 +100,77 @@ from_2 = Counts ∷ from_3
 abbrev from_1 : List Rule
 from_1 = LineOption ∷ from_2
 
--- the rules below a number leave the verdict to those from it on
-to_2 : (p : Plan) → IsMetBelow p 2 → verdict_by p from_1 ≡ verdict_by p from_2
-to_2 p met = skip p LineOption from_2 (λ r lt. met r (omega arith)) (met LineOption (omega arith))
+outcome : (p : Plan) → Outcome p (verdict_of p)
+unfolding verdict_of
+outcome p =
+    outcome_of_rule p LineOption from_2 (met_below_1 p) (λ m2.
+    outcome_of_rule p Counts from_3 m2 (λ m3.
+    outcome_of_rule p WholeFrames from_4 m3 (λ m4.
+    outcome_of_rule p SampleRate from_5 m4 (λ m5.
+    outcome_of_rule p SampleWidth from_6 m5 (λ m6.
+    outcome_of_rule p ContainerSize from_7 m6 (λ m7.
+    outcome_of_rule p ContainerEnd from_8 m7 (λ m8.
+    outcome_of_rule p SeparateBits from_9 m8 (λ m9.
+    outcome_of_rule p SharedOut from_10 m9 (λ m10.
+    outcome_of_rule p PayloadSize from_11 m10 (λ m11.
+    outcome_of_rule p ArrivalWindow from_12 m11 (λ m12.
+    outcome_of_rule p PlayedInTime from_13 m12 (λ m13.
+    outcome_of_rule p SequenceNumbers from_14 m13 (λ m14.
+    outcome_of_rule p BufferRoom [] m14 (λ m15. inl (good_from_met p m15, refl)))))))))))))))
 
-to_3 : (p : Plan) → IsMetBelow p 3 → verdict_by p from_1 ≡ verdict_by p from_3
-to_3 p met = to_2 p (λ r lt. met r (omega arith)) ∙ skip p Counts from_3 (λ r lt. met r (omega arith)) (met Counts (omega arith))
+-- a good plan has no first failure
+not_good : (p : Plan) (n i : ℕ) → IsFirstFailure p n i → ¬ IsGood p
+not_good p n i f good = f.fails.fails (good f.rule i f.fails.in_range)
 
-to_4 : (p : Plan) → IsMetBelow p 4 → verdict_by p from_1 ≡ verdict_by p from_4
-to_4 p met = to_3 p (λ r lt. met r (omega arith)) ∙ skip p WholeFrames from_4 (λ r lt. met r (omega arith)) (met WholeFrames (omega arith))
+-- a rule that fails is met neither below a later number nor before a later item
+not_before : (p : Plan) (n i m j : ℕ) → IsFirstFailure p n i → IsFirstFailure p m j → ¬ (n < m)
+not_before p n i m j f g less = f.fails.fails (g.before f.rule (omega (arith, f.numbered)) i f.fails.in_range)
 
-to_5 : (p : Plan) → IsMetBelow p 5 → verdict_by p from_1 ≡ verdict_by p from_5
-to_5 p met = to_4 p (λ r lt. met r (omega arith)) ∙ skip p SampleRate from_5 (λ r lt. met r (omega arith)) (met SampleRate (omega arith))
+not_before_item : (p : Plan) (r s : Rule) (i j : ℕ) → r ≡ s → FailsFirstAt p r i → FailsFirstAt p s j → ¬ (i < j)
+not_before_item p r s i j same f g less = f.fails (subst (λ x. Holds p x i) (sym same) (g.before i less))
 
-to_6 : (p : Plan) → IsMetBelow p 6 → verdict_by p from_1 ≡ verdict_by p from_6
-to_6 p met = to_5 p (λ r lt. met r (omega arith)) ∙ skip p SampleWidth from_6 (λ r lt. met r (omega arith)) (met SampleWidth (omega arith))
+one_number : (n m : ℕ) → ¬ (n < m) → ¬ (m < n) → n ≡ m
+one_number n m a b = elim (cases_order n m) [ inl same ↦ same | inr apart ↦ elim apart [ inl less ↦ absurd (a less) | inr more ↦ absurd (b more) ] ]
 
-to_7 : (p : Plan) → IsMetBelow p 7 → verdict_by p from_1 ≡ verdict_by p from_7
-to_7 p met = to_6 p (λ r lt. met r (omega arith)) ∙ skip p ContainerSize from_7 (λ r lt. met r (omega arith)) (met ContainerSize (omega arith))
+one_failure : (p : Plan) (n i m j : ℕ) → IsFirstFailure p n i → IsFirstFailure p m j → (n ≡ m) × (i ≡ j)
+one_failure p n i m j f g =
+    let numbers : n ≡ m = one_number n m (not_before p n i m j f g) (not_before p m j n i g f) in
+    let rules : f.rule ≡ g.rule = same_rule f.rule g.rule (f.numbered ∙ (numbers ∙ sym g.numbered)) in
+    (numbers, one_number i j (not_before_item p f.rule g.rule i j rules f.fails g.fails) (not_before_item p g.rule f.rule j i (sym rules) g.fails f.fails))
 
-to_8 : (p : Plan) → IsMetBelow p 8 → verdict_by p from_1 ≡ verdict_by p from_8
-to_8 p met = to_7 p (λ r lt. met r (omega arith)) ∙ skip p ContainerEnd from_8 (λ r lt. met r (omega arith)) (met ContainerEnd (omega arith))
-
-to_9 : (p : Plan) → IsMetBelow p 9 → verdict_by p from_1 ≡ verdict_by p from_9
-to_9 p met = to_8 p (λ r lt. met r (omega arith)) ∙ skip p SeparateBits from_9 (λ r lt. met r (omega arith)) (met SeparateBits (omega arith))
-
-to_10 : (p : Plan) → IsMetBelow p 10 → verdict_by p from_1 ≡ verdict_by p from_10
-to_10 p met = to_9 p (λ r lt. met r (omega arith)) ∙ skip p SharedOut from_10 (λ r lt. met r (omega arith)) (met SharedOut (omega arith))
-
-to_11 : (p : Plan) → IsMetBelow p 11 → verdict_by p from_1 ≡ verdict_by p from_11
-to_11 p met = to_10 p (λ r lt. met r (omega arith)) ∙ skip p PayloadSize from_11 (λ r lt. met r (omega arith)) (met PayloadSize (omega arith))
-
-to_12 : (p : Plan) → IsMetBelow p 12 → verdict_by p from_1 ≡ verdict_by p from_12
-to_12 p met = to_11 p (λ r lt. met r (omega arith)) ∙ skip p ArrivalWindow from_12 (λ r lt. met r (omega arith)) (met ArrivalWindow (omega arith))
-
-to_13 : (p : Plan) → IsMetBelow p 13 → verdict_by p from_1 ≡ verdict_by p from_13
-to_13 p met = to_12 p (λ r lt. met r (omega arith)) ∙ skip p PlayedInTime from_13 (λ r lt. met r (omega arith)) (met PlayedInTime (omega arith))
-
-to_14 : (p : Plan) → IsMetBelow p 14 → verdict_by p from_1 ≡ verdict_by p from_14
-to_14 p met = to_13 p (λ r lt. met r (omega arith)) ∙ skip p SequenceNumbers from_14 (λ r lt. met r (omega arith)) (met SequenceNumbers (omega arith))
-
-verdict_by-stop : (p : Plan) (r : Rule) (i : ℕ) → FailsFirstAt p r i → IsMetBelow p (number_of r) → verdict_by p from_1 ≡ Fails (number_of r) i
-verdict_by-stop p LineOption i f met = stop p LineOption from_2 i met f
-verdict_by-stop p Counts i f met = to_2 p met ∙ stop p Counts from_3 i met f
-verdict_by-stop p WholeFrames i f met = to_3 p met ∙ stop p WholeFrames from_4 i met f
-verdict_by-stop p SampleRate i f met = to_4 p met ∙ stop p SampleRate from_5 i met f
-verdict_by-stop p SampleWidth i f met = to_5 p met ∙ stop p SampleWidth from_6 i met f
-verdict_by-stop p ContainerSize i f met = to_6 p met ∙ stop p ContainerSize from_7 i met f
-verdict_by-stop p ContainerEnd i f met = to_7 p met ∙ stop p ContainerEnd from_8 i met f
-verdict_by-stop p SeparateBits i f met = to_8 p met ∙ stop p SeparateBits from_9 i met f
-verdict_by-stop p SharedOut i f met = to_9 p met ∙ stop p SharedOut from_10 i met f
-verdict_by-stop p PayloadSize i f met = to_10 p met ∙ stop p PayloadSize from_11 i met f
-verdict_by-stop p ArrivalWindow i f met = to_11 p met ∙ stop p ArrivalWindow from_12 i met f
-verdict_by-stop p PlayedInTime i f met = to_12 p met ∙ stop p PlayedInTime from_13 i met f
-verdict_by-stop p SequenceNumbers i f met = to_13 p met ∙ stop p SequenceNumbers from_14 i met f
-verdict_by-stop p BufferRoom i f met = to_14 p met ∙ stop p BufferRoom [] i met f
+pub FailureIsUnique-holds : FailureIsUnique
+FailureIsUnique-holds = record { none = not_good; one = one_failure }
 
 pub verdict_of-good : (p : Plan) → IsGood p → verdict_of p ≡ Good
-unfolding verdict_of
-verdict_of-good p good = to_14 p (λ r _. good r) ∙ skip p BufferRoom [] (λ r _. good r) (good BufferRoom)
+verdict_of-good p good =
+    elim (outcome p) [ inl h ↦ h.1 | inr h ↦ absurd (not_good p h.0 h.1 h.2 good) ]
 
 pub verdict_of-first_failure : (p : Plan) (n i : ℕ) → IsFirstFailure p n i → verdict_of p ≡ Fails n i
-unfolding verdict_of
 verdict_of-first_failure p n i f =
-    let met = subst (λ k. IsMetBelow p k) (sym f.numbered) f.before in
-    subst (λ k. verdict_by p from_1 ≡ Fails k i) f.numbered (verdict_by-stop p f.rule i f.fails met)
+    elim (outcome p) [
+      | inl h ↦ absurd (not_good p n i f h.0)
+      | inr h ↦
+          let same = one_failure p h.0 h.1 n i h.2 f in
+          h.3 ∙ (ap (λ k. Fails k h.1) same.0 ∙ ap (Fails n) same.1)
+    ]
 
--- a plan has one first failure at most
-pub IsFirstFailure-unique : (p : Plan) (n i m j : ℕ) → IsFirstFailure p n i → IsFirstFailure p m j → (n ≡ m) × (i ≡ j)
-IsFirstFailure-unique p n i m j f g =
-    let same : Fails n i ≡ Fails m j = sym (verdict_of-first_failure p n i f) ∙ verdict_of-first_failure p m j g in
-    (cc, cc)
+good_from_verdict : (p : Plan) → verdict_of p ≡ Good → IsGood p
+good_from_verdict p e = elim (outcome p) [ inl h ↦ h.0 | inr h ↦ absurd (let other : Fails h.0 h.1 ≡ Good = sym h.3 ∙ e in cc) ]
 
--- and none where it is good
-pub IsFirstFailure-not_good : (p : Plan) (n i : ℕ) → IsFirstFailure p n i → ¬ IsGood p
-IsFirstFailure-not_good p n i f good = f.fails.fails (good f.rule i f.fails.in_range)
+failure_from_verdict : (p : Plan) (n i : ℕ) → verdict_of p ≡ Fails n i → IsFirstFailure p n i
+failure_from_verdict p n i e =
+    elim (outcome p) [
+      | inl h ↦ absurd (let other : Good ≡ Fails n i = sym h.1 ∙ e in cc)
+      | inr h ↦
+          let same : Fails h.0 h.1 ≡ Fails n i = sym h.3 ∙ e in
+          let number : h.0 ≡ n = cc in
+          let item : h.1 ≡ i = cc in
+          subst (λ k. IsFirstFailure p k i) number (subst (IsFirstFailure p h.0) item h.2)
+    ]
+
+pub VerdictIsComputed-holds : VerdictIsComputed
+VerdictIsComputed-holds =
+    record {
+      good = λ p. (good_from_verdict p, verdict_of-good p);
+      fails = λ p n i. (failure_from_verdict p n i, verdict_of-first_failure p n i);
+    }

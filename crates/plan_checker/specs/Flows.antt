@@ -3,11 +3,11 @@ use Rattle.std.specs.Prelude.{ℕ, ◌≡◌, ◌≢◌, ◌==◌, ◌+◌, ◌*
 use Rattle.std.specs.List.{list_any, range_with_len}
 use Rattle.std.specs.List.Sorted.{IsStrictlyIncreasing}
 use Rattle.std.specs.Int.{div_ceil}
-use Rattle.carrier_plan.specs.declared.plan.Carrier.{Carrier}
 use Rattle.carrier_plan.specs.declared.plan.Flow.{Flow}
 use Rattle.carrier_plan.specs.declared.plan.Mode.{Mode}
 use Rattle.carrier_plan.specs.declared.plan.Mode.TheVariants.{Tunnel, Bytes, Aware}
 use Rattle.carrier_plan.specs.declared.plan.Plan.{Plan}
+use Rattle.plan_checker.specs.Container.{container_size}
 use Rattle.plan_checker.specs.WordSize.{word_size}
 
 -- there is one flow: it has control, and it lists all n carriers in their order
@@ -37,7 +37,7 @@ pub record SharesOutCarriers (flows : List Flow) (n : ℕ) : Type 0 where
 
 -- the IQ bits of the container of each carrier
 abbrev pub container_sizes : Plan → List ℕ
-container_sizes p = map (λ (c : Carrier). c.size) p.carriers
+container_sizes p = map container_size p.carriers
 
 -- the IQ bits of the containers of the listed carriers
 abbrev pub bits_of_carriers : Plan → List ℕ → ℕ

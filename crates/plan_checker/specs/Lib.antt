@@ -1,8 +1,6 @@
 pub mod WordSize
 pub mod SampleRate
 pub mod Container
-pub mod Count
-pub mod Window
 pub mod Flows
 pub mod Timing
 pub mod Rules

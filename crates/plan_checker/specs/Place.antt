@@ -1,12 +1,13 @@
 -- Where the bits of samples stand in basic frames (CPRI V7.0, section 4.2.7.2, the mapping methods 1 and 3). That blocks
--- begin at frame 0, that a block is sent in the frames of the next block, and the places of stuffing are this project's own.
-use Rattle.std.specs.Prelude.{ℕ, ◌+◌, ◌-◌, ◌*◌, ◌/◌, ◌%◌, ◌==◌, Bool, not, List, filter, slice_index}
-use Rattle.std.specs.List.{list_any, range_with_len}
-use Rattle.std.specs.Int.{div_ceil}
+-- begin at frame 0, that a block is sent in the frames of the next block, and pieces are this project's own.
+use Rattle.std.specs.Prelude.{ℕ, ◌+◌, ◌-◌, ◌*◌, ◌/◌, ◌%◌, nat_lt, List, [], ◌∷◌, if◌then◌else◌}
 use Rattle.carrier_plan.specs.declared.plan.Carrier.{Carrier}
 use Rattle.carrier_plan.specs.declared.plan.Method.{Method}
 use Rattle.carrier_plan.specs.declared.plan.Method.TheVariants.{Sample, Compatible}
-use Rattle.plan_checker.specs.Container.{prescribed_size}
+use Rattle.carrier_plan.specs.declared.plan.Piece.{Piece}
+use Rattle.sample_bits.specs.BlockPlace.{BlockPlace}
+use Rattle.axc_sample_map.specs.Place as sample_map
+use Rattle.axc_compatible_map.specs.Place as compatible_map
 
 pub record BitPlace : Type 0 where
   -- the number of the basic frame
@@ -14,32 +15,21 @@ pub record BitPlace : Type 0 where
   -- the IQ bit of that frame
   pub bit : ℕ
 
--- the containers of one sample each in a basic frame, by method 3
-abbrev pub frame_containers : Carrier → ℕ
-frame_containers c = div_ceil c.s c.k
+-- the IQ bit at which bit b of a container in pieces stands. The bits of the pieces, one piece after another, are those
+-- of the container.
+abbrev pub iq_bit : List Piece → ℕ → ℕ
+iq_bit [] b = b
+iq_bit (p ∷ ps) b = if nat_lt b p.size then p.start + b else iq_bit ps (b - p.size)
 
--- how many containers of a block are stuffing
-abbrev pub stuffing_containers : Carrier → ℕ
-stuffing_containers c = frame_containers c * c.k - c.s
+-- where bit b of sample r of a block stands in the block's containers, by the mapping method
+abbrev pub place_in_block : Method → ℕ → ℕ → ℕ → ℕ → ℕ → BlockPlace
+place_in_block Sample m s k r b = sample_map.place_in_block m s k r b
+place_in_block Compatible m s k r b = compatible_map.place_in_block m s k r b
 
--- whether container u of a block is stuffing
-abbrev pub is_stuffing : Carrier → ℕ → Bool
-is_stuffing c u = list_any (λ i. i * c.k * frame_containers c / stuffing_containers c == u) (range_with_len 0 (stuffing_containers c))
-
--- the containers of a block that carry its samples, in their order
-abbrev pub sample_containers : Carrier → List ℕ
-sample_containers c = filter (λ u. not (is_stuffing c u)) (range_with_len 0 (frame_containers c * c.k))
-
--- the place that is g bits into the containers of the frames that send the block, which have n bits each
-abbrev pub place_in_block : Carrier → ℕ → ℕ → ℕ → BitPlace
-place_in_block c block n g = record { frame = (block + 1) * c.k + g / n; bit = c.start + g % n }
+-- where a place in the containers of a block is, of a carrier with this many basic frames in a block and these pieces
+abbrev pub place_of_block : Carrier → ℕ → BlockPlace → BitPlace
+place_of_block c block place = record { frame = (block + 1) * c.k + place.phase; bit = iq_bit c.pieces place.bit }
 
 -- where bit b of sample j of the carrier stands
-unfoldable pub place_by : Method → Carrier → ℕ → ℕ → BitPlace
-place_by Sample c j b = place_in_block c (j / c.s) (prescribed_size c) (2 * c.m * (j % c.s) + b)
-place_by Compatible c j b =
-    let u = slice_index (sample_containers c) (j % c.s) in
-    record { frame = (j / c.s + 1) * c.k + u / frame_containers c; bit = c.start + u % frame_containers c * (2 * c.m) + b }
-
 abbrev pub place_of : Carrier → ℕ → ℕ → BitPlace
-place_of c j b = place_by c.method c j b
+place_of c j b = place_of_block c (j / c.s) (place_in_block c.method c.m c.s c.k (j % c.s) b)

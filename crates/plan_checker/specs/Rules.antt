@@ -1,10 +1,10 @@
 -- The rules that a plan has to meet. The rules, their numbers and their order are this project's own.
 use Rattle.std.specs.Prelude.{ℕ, ◌≡◌, ◌<◌, ◌≤◌, length}
-use Rattle.std.specs.List.{AllWithin, HoldsAt}
+use Rattle.std.specs.List.{HoldsAt}
 use Rattle.carrier_plan.specs.declared.plan.Plan.{Plan}
 use Rattle.plan_checker.specs.WordSize.{IsLineOption, iq_bits}
 use Rattle.plan_checker.specs.SampleRate.{HasSampleRate, HasSampleWidth}
-use Rattle.plan_checker.specs.Container.{HasPrescribedSize, LiesWithin, SharesNoBit}
+use Rattle.plan_checker.specs.Container.{HasPrescribedSize, LiesWithin, HasSeparateBits}
 use Rattle.plan_checker.specs.Flows.{CarriesWholeFrames, SharesOutCarriers, HasPayload}
 use Rattle.plan_checker.specs.Timing.{HasWindow, IsPlayedInTime, HasSequenceNumbers, HasRoom}
 
@@ -19,11 +19,11 @@ pub data Rule : Type 0 where
   SampleRate : Rule
   -- its samples are neither too narrow nor too wide
   SampleWidth : Rule
-  -- its container is as long as its mapping method prescribes
+  -- its container has 1 to 4 pieces and is as long as its mapping method prescribes
   ContainerSize : Rule
-  -- its container ends within the IQ bits of a basic frame
+  -- the pieces of its container end within the IQ bits of a basic frame
   ContainerEnd : Rule
-  -- its container shares no bit with that of an earlier carrier
+  -- no piece shares a bit with an earlier one of the carrier, or with one of an earlier carrier
   SeparateBits : Rule
   -- the flows share out the carriers and the control words
   SharedOut : Rule
@@ -88,7 +88,7 @@ Holds p SampleRate i = HoldsAt HasSampleRate p.carriers i
 Holds p SampleWidth i = HoldsAt HasSampleWidth p.carriers i
 Holds p ContainerSize i = HoldsAt HasPrescribedSize p.carriers i
 Holds p ContainerEnd i = HoldsAt (LiesWithin (iq_bits p.option)) p.carriers i
-Holds p SeparateBits i = HoldsAt (λ c. AllWithin (λ earlier. SharesNoBit earlier c) p.carriers 0 i) p.carriers i
+Holds p SeparateBits i = HoldsAt (HasSeparateBits p.carriers i) p.carriers i
 Holds p SharedOut i = SharesOutCarriers p.flows (length p.carriers)
 Holds p PayloadSize i = HoldsAt (HasPayload p) p.flows i
 Holds p ArrivalWindow i = HoldsAt HasWindow p.flows i

@@ -1,11 +1,10 @@
 -- The numbers of a run of a plan. They are this project's own.
 use Rattle.std.specs.Prelude.{ℕ, ◌+◌, ◌-◌, ◌*◌, ◌/◌, ◌<◌, ◌≤◌, List, map, fold, max, slice_index}
-use Rattle.std.specs.Int.{div_ceil}
 use Rattle.carrier_plan.specs.declared.plan.Carrier.{Carrier}
 use Rattle.carrier_plan.specs.declared.plan.Flow.{Flow}
 use Rattle.carrier_plan.specs.declared.plan.Plan.{Plan}
 use Rattle.plan_checker.specs.Flows.{octets_of_frame}
-use Rattle.plan_checker.specs.Window.{most_held}
+use Rattle.link_base.specs.Window.{most_held}
 
 -- S of each carrier: the samples of its block
 abbrev pub block_samples : Plan → List ℕ
@@ -46,10 +45,6 @@ least_delays p = map (λ (f : Flow). f.lmin) p.flows
 -- the greatest number of packets of flow f that may have to be held at one tick
 abbrev pub packets_held : Plan → ℕ → ℕ
 packets_held p f = most_held (slice_index (packet_frames p) f) (slice_index (least_delays p) f) p.playout
-
--- the packets of flow f in a run of h ticks: they carry the frames of the run and of the longest block after it
-abbrev pub packets_of_run : Plan → ℕ → ℕ → ℕ
-packets_of_run p f h = div_ceil (h + longest_block p) (slice_index (packet_frames p) f)
 
 -- the ticks in which a run of h ticks is played
 abbrev pub ticks_of_run : Plan → ℕ → ℕ

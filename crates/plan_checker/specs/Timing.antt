@@ -1,8 +1,8 @@
 -- When the packets of a flow arrive and are played, and how they are numbered and held. This project's own.
 use Rattle.std.specs.Prelude.{ℕ, ◌+◌, ◌-◌, ◌*◌, ◌/◌, ◌<◌, ◌≤◌}
 use Rattle.carrier_plan.specs.declared.plan.Flow.{Flow}
-use Rattle.plan_checker.specs.Count.{HasCount}
-use Rattle.plan_checker.specs.Window.{IsHeld}
+use Rattle.link_base.specs.Count.{HasCount}
+use Rattle.link_base.specs.Window.{IsHeld}
 
 -- the window of a packet is not empty, and ends soon enough
 abbrev pub HasWindow : Flow → Type 0

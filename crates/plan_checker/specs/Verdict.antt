@@ -6,11 +6,12 @@ use Rattle.carrier_plan.specs.declared.plan.Carrier.{Carrier}
 use Rattle.carrier_plan.specs.declared.plan.Flow.{Flow}
 use Rattle.carrier_plan.specs.declared.plan.Mode.{Mode}
 use Rattle.carrier_plan.specs.declared.plan.Mode.TheVariants.{Tunnel, Bytes, Aware}
+use Rattle.carrier_plan.specs.declared.plan.Piece.{Piece}
 use Rattle.carrier_plan.specs.declared.plan.Plan.{Plan}
 use Rattle.plan_checker.specs.WordSize.{iq_bits}
-use Rattle.plan_checker.specs.Container.{prescribed_size}
+use Rattle.plan_checker.specs.Container.{container_size, prescribed_size}
 use Rattle.plan_checker.specs.Flows.{lists, octets_of_frame}
-use Rattle.plan_checker.specs.Window.{most_held}
+use Rattle.link_base.specs.Window.{most_held}
 use Rattle.plan_checker.specs.Rules.{Rule, number_of, item_count}
 use Rattle.plan_checker.specs.Rules.Rule.{LineOption, Counts, WholeFrames, SampleRate, SampleWidth, ContainerSize, ContainerEnd, SeparateBits, SharedOut, PayloadSize, ArrivalWindow, PlayedInTime, SequenceNumbers, BufferRoom}
 
@@ -47,11 +48,27 @@ has_sample_rate c = divides c.k 38_400 && (nat_le c.k 96 && (nat_le 1 c.s && (na
 abbrev pub has_sample_width : Carrier → Bool
 has_sample_width c = nat_le 4 c.m && nat_le c.m 20
 
-abbrev pub holds_bit : Carrier → ℕ → Bool
-holds_bit c x = nat_le c.start x && nat_lt x (c.start + c.size)
+abbrev pub has_prescribed_size : Carrier → Bool
+has_prescribed_size c = nat_le 1 (length c.pieces) && (nat_le (length c.pieces) 4 && (list_all (λ p. nat_le 1 p.size) c.pieces && container_size c == prescribed_size c))
 
-abbrev pub shares_no_bit : Carrier → Carrier → Bool
-shares_no_bit a b = all_below (λ x. not (holds_bit a x && holds_bit b x)) (a.start + a.size)
+abbrev pub lies_within : ℕ → Carrier → Bool
+lies_within n c = list_all (λ p. nat_le (p.start + p.size) n) c.pieces
+
+abbrev pub is_in_piece : ℕ → Piece → Bool
+is_in_piece x p = nat_le p.start x && nat_lt x (p.start + p.size)
+
+abbrev pub shares_no_bit : Piece → Piece → Bool
+shares_no_bit a b = all_below (λ x. not (is_in_piece x a && is_in_piece x b)) (a.start + a.size)
+
+abbrev pub has_separate_pieces : List Piece → Bool
+has_separate_pieces [] = true
+has_separate_pieces (p ∷ ps) = list_all (shares_no_bit p) ps && has_separate_pieces ps
+
+abbrev pub shares_no_piece : List Piece → List Piece → Bool
+shares_no_piece earlier pieces = list_all (λ a. list_all (shares_no_bit a) pieces) earlier
+
+abbrev pub has_separate_bits : List Carrier → ℕ → Carrier → Bool
+has_separate_bits carriers i c = has_separate_pieces c.pieces && all_below (λ j. test_at (λ earlier. shares_no_piece earlier.pieces c.pieces) carriers j) i
 
 abbrev pub has_counts : Plan → Bool
 has_counts p = nat_le 1 (length p.carriers) && (nat_le (length p.carriers) 64 && (nat_le 1 (length p.flows) && nat_le (length p.flows) 8))
@@ -101,9 +118,9 @@ holds p Counts i = has_counts p
 holds p WholeFrames i = carries_whole_frames p.mode p.flows (length p.carriers)
 holds p SampleRate i = test_at has_sample_rate p.carriers i
 holds p SampleWidth i = test_at has_sample_width p.carriers i
-holds p ContainerSize i = test_at (λ c. c.size == prescribed_size c) p.carriers i
-holds p ContainerEnd i = test_at (λ c. nat_le (c.start + c.size) (iq_bits p.option)) p.carriers i
-holds p SeparateBits i = test_at (λ c. all_below (λ j. test_at (λ earlier. shares_no_bit earlier c) p.carriers j) i) p.carriers i
+holds p ContainerSize i = test_at has_prescribed_size p.carriers i
+holds p ContainerEnd i = test_at (lies_within (iq_bits p.option)) p.carriers i
+holds p SeparateBits i = test_at (has_separate_bits p.carriers i) p.carriers i
 holds p SharedOut i = shares_out_carriers p.flows (length p.carriers)
 holds p PayloadSize i = test_at (has_payload p) p.flows i
 holds p ArrivalWindow i = test_at has_window p.flows i

@@ -1,4 +1,4 @@
--- The size of a word of the basic frame (CPRI V7.0, section 4.2.3), for the line bit rate options in 8B/10B code.
+-- The size of a word of the basic frame (CPRI V7.0, section 4.2.7.1), for the line bit rate options in 8B/10B code.
 use Rattle.std.specs.Prelude.{ℕ, ◌*◌, ◌≤◌, ◌==◌, if◌then◌else◌}
 
 -- the option is 1 to 7

@@ -1,14 +1,15 @@
 // A plan that meets the rules, and its numbers.
 ghost use Rattle.std.specs.Prelude.{All, Any, IfErr, IfOk, IsOk, MatchResult, length, slice_index, ◌≡◌, ◌<◌, ◌≤◌, ◌^◌, ◌↔◌};
+ghost use Rattle.std.specs.List.{HoldsAt};
 ghost use Rattle.plan_checker.specs.WordSize.{word_size};
 ghost use Rattle.plan_checker.specs.Rules.{IsFirstFailure, IsGood};
 ghost use Rattle.plan_checker.specs.Verdict.{verdict_of};
 ghost use Rattle.plan_checker.specs.Verdict.Verdict.{Good, Fails};
-ghost use Rattle.plan_checker.specs.Count.{HasCount};
-ghost use Rattle.plan_checker.specs.Window.{IsMostHeld};
-ghost use Rattle.plan_checker.specs.Run.{IsDue, delay_of, frame_octets_of, least_delays, longest_block, packet_frames, packets_held, packets_of_run, samples_due, ticks_of_run};
+ghost use Rattle.link_base.specs.Count.{HasCount};
+ghost use Rattle.link_base.specs.Window.{IsMostHeld};
+ghost use Rattle.plan_checker.specs.Packets.{run_packets};
+ghost use Rattle.plan_checker.specs.Run.{IsDue, delay_of, frame_octets_of, least_delays, longest_block, packet_frames, packets_held, samples_due, ticks_of_run};
 
-use crate::copies::copy_of_plan;
 use crate::failure::Failure;
 use crate::payload::octets_of_frame;
 use crate::rules::first_failure;
@@ -115,7 +116,7 @@ impl Checked {
     pub fn packets(&self, f: usize, h: u64) -> u64
         requires flow { f < length self.now.flows }
         requires run { h ≤ 2 ^ 40 }
-        ensures { result ≡ packets_of_run self.now f h }
+        ensures { HoldsAt (λ flow. result ≡ run_packets self.now flow h) self.now.flows f }
     {
         (h + u64::from(self.longest())).div_ceil(u64::from(self.plan.flows.at(f).frames))
     }
@@ -154,7 +155,7 @@ impl Checked {
         ensures { IfOk result (λ copy. copy ≡ self.now) }
     {
         Ok(Checked {
-            plan: copy_of_plan(alloc, &self.plan)?,
+            plan: self.plan.copy(alloc)?,
         })
     }
 }

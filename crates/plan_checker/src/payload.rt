@@ -2,6 +2,7 @@
 ghost use Rattle.std.specs.Prelude.{IsTrue, All, length, ◌≡◌, ◌<◌, ◌≤◌, ◌↔◌};
 ghost use Rattle.plan_checker.specs.Flows.{HasPayload, bits_of_carriers, octets_of_frame};
 
+use crate::container::bits_of_container;
 use crate::word_size::octets_of_word;
 use carrier_plan::{Flow, Mode, Plan};
 
@@ -9,12 +10,13 @@ use carrier_plan::{Flow, Mode, Plan};
 fn bits_of_carriers(plan: &Plan, numbers: &[u32]) -> usize
     requires known { All (λ c. c < length plan.now.carriers) numbers.now }
     requires few { length numbers.now ≤ 64 }
+    requires pieces { All (λ c. length c.pieces ≤ 4) plan.now.carriers }
     ensures value { result ≡ bits_of_carriers plan.now numbers.now }
-    ensures small { result ≤ 274_877_906_944 }
+    ensures small { result ≤ 1_099_511_627_520 }
 {
     let mut bits = 0;
     for number in numbers {
-        bits += plan.carriers.at(*number as usize).size as usize;
+        bits += bits_of_container(plan.carriers.at(*number as usize)) as usize;
     }
     bits
 }
@@ -23,8 +25,9 @@ fn bits_of_carriers(plan: &Plan, numbers: &[u32]) -> usize
 pub(crate) fn octets_of_frame(plan: &Plan, flow: &Flow) -> usize
     requires known { All (λ c. c < length plan.now.carriers) flow.now.carriers }
     requires few { length flow.now.carriers ≤ 64 }
+    requires pieces { All (λ c. length c.pieces ≤ 4) plan.now.carriers }
     ensures value { result ≡ octets_of_frame plan.now flow.now }
-    ensures small { result ≤ 34_359_738_384 }
+    ensures small { result ≤ 137_438_953_456 }
 {
     let word = octets_of_word(plan.option);
     match plan.mode {
@@ -40,6 +43,7 @@ pub(crate) fn octets_of_frame(plan: &Plan, flow: &Flow) -> usize
 pub(crate) fn has_payload(plan: &Plan, flow: &Flow) -> bool
     requires known { All (λ c. c < length plan.now.carriers) flow.now.carriers }
     requires few { length flow.now.carriers ≤ 64 }
+    requires pieces { All (λ c. length c.pieces ≤ 4) plan.now.carriers }
     ensures { IsTrue result ↔ HasPayload plan.now flow.now }
 {
     (1..=64).contains(&flow.frames)

@@ -3,7 +3,7 @@ ghost use Rattle.std.specs.Prelude.{IsTrue, MatchOption, length, ◌<◌, ◌↔
 ghost use Rattle.plan_checker.specs.Rules.{FailsFirstAt, Holds, IsFirstFailure, IsGood, IsMet, IsMetBelow};
 ghost use Rattle.plan_checker.specs.Rules.Rule.{LineOption, Counts, WholeFrames, SampleRate, SampleWidth, ContainerSize, ContainerEnd, SeparateBits};
 
-use crate::container::{lies_within, shares_no_bit, size_of_container};
+use crate::container::{has_prescribed_size, has_separate_bits, lies_within};
 use crate::failure::Failure;
 use crate::flow_rules::failure_of_flows;
 use crate::flows::is_one_whole_flow;
@@ -54,21 +54,21 @@ fn wrong_width(plan: &Plan) -> Option<usize>
         .position(|carrier| !has_sample_width(carrier))
 }
 
-// The first carrier whose container is not as long as prescribed.
+// The first carrier whose container has no pieces, too many or an empty one, or is not as long as prescribed.
 fn wrong_size(plan: &Plan) -> Option<usize>
     requires rates { IsMet plan.now SampleRate }
     requires widths { IsMet plan.now SampleWidth }
     ensures { MatchOption result (IsMet plan.now ContainerSize) (FailsFirstAt plan.now ContainerSize) }
 {
     for (i, carrier) in plan.carriers.as_slice().iter().enumerate() {
-        if carrier.size != size_of_container(carrier) {
+        if !has_prescribed_size(carrier) {
             return Some(i);
         }
     }
     None
 }
 
-// The first carrier whose container ends past the frame's IQ bits.
+// The first carrier with a piece that ends past the frame's IQ bits.
 fn wrong_end(plan: &Plan) -> Option<usize>
     ensures { MatchOption result (IsMet plan.now ContainerEnd) (FailsFirstAt plan.now ContainerEnd) }
 {
@@ -79,24 +79,19 @@ fn wrong_end(plan: &Plan) -> Option<usize>
         .position(|carrier| !lies_within(carrier, bits))
 }
 
-// Whether the container of carrier `i` shares no bit with that of an earlier carrier.
-fn has_separate_bits(plan: &Plan, i: usize) -> bool
+fn is_separate(plan: &Plan, i: usize) -> bool
     requires { i < length plan.now.carriers }
     ensures { IsTrue result ↔ Holds plan.now SeparateBits i }
 {
-    let carriers = plan.carriers.as_slice();
-    let carrier = &carriers[i];
-    carriers[..i]
-        .iter()
-        .all(|earlier| shares_no_bit(earlier, carrier))
+    has_separate_bits(plan.carriers.as_slice(), i)
 }
 
-// The first carrier whose container shares a bit with that of an earlier carrier.
+// The first carrier with a piece that shares a bit with an earlier one.
 fn shared_bits(plan: &Plan) -> Option<usize>
     ensures { MatchOption result (IsMet plan.now SeparateBits) (FailsFirstAt plan.now SeparateBits) }
 {
     for i in 0..plan.carriers.len() {
-        if !has_separate_bits(plan, i) {
+        if !is_separate(plan, i) {
             return Some(i);
         }
     }

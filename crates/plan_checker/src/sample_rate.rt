@@ -1,7 +1,8 @@
 // The rate and the width of a carrier's samples.
 ghost use Rattle.std.specs.Prelude.{◌↔◌, IsTrue};
 ghost use Rattle.std.specs.Int.{IsGcd, ◌∣◌};
-ghost use Rattle.plan_checker.specs.SampleRate.{HasSampleRate, HasSampleWidth, IsCoprime};
+ghost use Rattle.sample_bits.specs.SampleRate.{IsCoprime};
+ghost use Rattle.plan_checker.specs.SampleRate.{HasSampleRate, HasSampleWidth};
 
 use carrier_plan::Carrier;
 
@@ -28,7 +29,7 @@ fn is_coprime(a: u32, b: u32) -> bool
 }
 
 // Whether blocks of `k` basic frames fill a radio frame of 150 hyperframes.
-fn fills_radio_frame(k: u32) -> bool
+pub(crate) fn fills_radio_frame(k: u32) -> bool
     ensures { IsTrue result ↔ (k ∣ 38_400) }
 {
     k != 0 && FRAMES_OF_RADIO_FRAME % k == 0

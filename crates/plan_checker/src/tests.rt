@@ -1,6 +1,8 @@
 // Plans at the edges of each rule.
-use crate::{Checked, check};
-use carrier_plan::{Carrier, CarrierList, Flow, FlowList, Method, Mode, NumberList, Plan};
+use crate::{Checked, Figures, Sharing, check};
+use carrier_plan::{
+    Carrier, CarrierList, Flow, FlowList, Method, Mode, NumberList, Piece, PieceList, Plan,
+};
 use link_base::NoMemory;
 use std::alloc::Global;
 use std::test::Fail;
@@ -26,10 +28,32 @@ fn flow_of(alloc: Global, id: u32, control: bool, carriers: &[u32]) -> Result<Fl
     })
 }
 
-fn list_of(alloc: Global, carriers: &[Carrier]) -> Result<CarrierList, NoMemory> {
+// A carrier in one piece.
+#[derive(Clone, Copy)]
+struct Outline {
+    method: Method,
+    s: u32,
+    k: u32,
+    m: u32,
+    piece: Piece,
+}
+
+fn carrier_of(alloc: Global, outline: Outline) -> Result<Carrier, NoMemory> {
+    let mut pieces = PieceList::new(alloc);
+    pieces.push(outline.piece)?;
+    Ok(Carrier {
+        method: outline.method,
+        s: outline.s,
+        k: outline.k,
+        m: outline.m,
+        pieces,
+    })
+}
+
+fn list_of(alloc: Global, carriers: &[Outline]) -> Result<CarrierList, NoMemory> {
     let mut list = CarrierList::new(alloc);
     for carrier in carriers {
-        list.push(*carrier)?;
+        list.push(carrier_of(alloc, *carrier)?)?;
     }
     Ok(list)
 }
@@ -39,7 +63,7 @@ fn plan_with(
     alloc: Global,
     option: u32,
     playout: u32,
-    carriers: &[Carrier],
+    carriers: &[Outline],
     flow: Flow,
 ) -> Result<Plan, NoMemory> {
     let mut flows = FlowList::new(alloc);
@@ -54,7 +78,7 @@ fn plan_with(
 }
 
 // A plan in mode `bytes` with one flow that lists all carriers.
-fn plan_of(alloc: Global, option: u32, carriers: &[Carrier]) -> Result<Plan, NoMemory> {
+fn plan_of(alloc: Global, option: u32, carriers: &[Outline]) -> Result<Plan, NoMemory> {
     let mut flow = flow_of(alloc, 7, true, &[])?;
     for i in 0..carriers.len().min(100) {
         flow.carriers.push(i as u32)?;
@@ -62,7 +86,7 @@ fn plan_of(alloc: Global, option: u32, carriers: &[Carrier]) -> Result<Plan, NoM
     plan_with(alloc, option, 2, carriers, flow)
 }
 
-fn checked(alloc: Global, option: u32, carriers: &[Carrier]) -> Result<Option<Checked>, NoMemory> {
+fn checked(alloc: Global, option: u32, carriers: &[Outline]) -> Result<Option<Checked>, NoMemory> {
     Ok(check(plan_of(alloc, option, carriers)?).ok())
 }
 
@@ -74,31 +98,29 @@ fn outcome(plan: Plan) -> (u32, u32) {
     }
 }
 
-fn first_failure(alloc: Global, option: u32, carriers: &[Carrier]) -> Result<(u32, u32), NoMemory> {
+fn first_failure(alloc: Global, option: u32, carriers: &[Outline]) -> Result<(u32, u32), NoMemory> {
     Ok(outcome(plan_of(alloc, option, carriers)?))
 }
 
 // A carrier by method 1.
-fn sampled(s: u32, k: u32, m: u32, start: u32, size: u32) -> Carrier {
-    Carrier {
+fn sampled(s: u32, k: u32, m: u32, start: u32, size: u32) -> Outline {
+    Outline {
         method: Method::Sample,
         s,
         k,
         m,
-        start,
-        size,
+        piece: Piece { start, size },
     }
 }
 
 // A carrier by method 3.
-fn compatible(s: u32, k: u32, m: u32, start: u32, size: u32) -> Carrier {
-    Carrier {
+fn compatible(s: u32, k: u32, m: u32, start: u32, size: u32) -> Outline {
+    Outline {
         method: Method::Compatible,
         s,
         k,
         m,
-        start,
-        size,
+        piece: Piece { start, size },
     }
 }
 
@@ -165,8 +187,121 @@ fn several_carriers(rt: HostRuntime) -> Result<(), Fail> {
     Ok(())
 }
 
+// A plan on option 1 of carriers of 16 bits in these pieces.
+fn plan_of_pieces(alloc: Global, carriers: &[&[(u32, u32)]]) -> Result<Plan, NoMemory> {
+    let mut plan = plan_of(alloc, 1, &[])?;
+    plan.flows = FlowList::new(alloc);
+    for (i, pieces) in (0..100).zip(carriers) {
+        let mut list = PieceList::new(alloc);
+        for (start, size) in *pieces {
+            list.push(Piece {
+                start: *start,
+                size: *size,
+            })?;
+        }
+        plan.carriers.push(Carrier {
+            method: Method::Sample,
+            s: 1,
+            k: 1,
+            m: 8,
+            pieces: list,
+        })?;
+        plan.flows.push(flow_of(alloc, i, i == 0, &[i])?)?;
+    }
+    plan.mode = Mode::Aware;
+    Ok(plan)
+}
+
+#[test]
+fn containers_in_pieces(rt: HostRuntime) -> Result<(), Fail> {
+    let rows: [(&[&[(u32, u32)]], (u32, u32)); 15] = [
+        (&[&[(0, 10), (100, 6)]], (0, 0)),
+        (&[&[(8, 8), (0, 8)]], (0, 0)),
+        (&[&[(0, 4), (10, 4), (20, 4), (116, 4)]], (0, 0)),
+        // No piece, an empty one, five, and too few bits in all.
+        (&[&[]], (6, 0)),
+        (&[&[(0, 16), (20, 0)]], (6, 0)),
+        (&[&[(0, 4), (4, 4), (8, 4), (12, 2), (14, 2)]], (6, 0)),
+        (&[&[(0, 10), (100, 5)]], (6, 0)),
+        (&[&[(0, u32::MAX), (0, 17)]], (6, 0)),
+        // The end of each piece.
+        (&[&[(0, 10), (115, 6)]], (7, 0)),
+        (&[&[(u32::MAX, 10), (100, 6)]], (7, 0)),
+        // A carrier's own pieces.
+        (&[&[(0, 10), (9, 6)]], (8, 0)),
+        (&[&[(0, 4), (20, 8), (3, 4)]], (8, 0)),
+        // Pieces of several carriers.
+        (&[&[(0, 8), (40, 8)], &[(8, 8), (48, 8)]], (0, 0)),
+        (&[&[(0, 8), (40, 8)], &[(8, 8), (47, 8)]], (8, 1)),
+        (
+            &[&[(0, 8), (40, 8)], &[(8, 16)], &[(24, 15), (7, 1)]],
+            (8, 2),
+        ),
+    ];
+    for (carriers, expected) in rows {
+        assert_eq!(rt; outcome(plan_of_pieces(rt.alloc(), carriers)?), expected);
+    }
+    Ok(())
+}
+
+// The figures of the rule that the plan fails.
+fn figures(plan: Plan) -> Option<Figures> {
+    check(plan).err()?.figures()
+}
+
+#[test]
+fn figures_of_containers(rt: HostRuntime) -> Result<(), Fail> {
+    let rows: [(&[&[(u32, u32)]], Figures); 4] = [
+        (
+            &[&[(0, 10), (100, 5)]],
+            Figures::ContainerSize {
+                pieces: 2,
+                empty: None,
+                size: 15,
+                prescribed: 16,
+            },
+        ),
+        (
+            &[&[(0, 10), (115, 6)]],
+            Figures::ContainerEnd {
+                piece: 1,
+                start: 115,
+                size: 6,
+                end: 121,
+                bits: 120,
+                option: 1,
+            },
+        ),
+        (
+            &[&[(0, 10), (9, 6)]],
+            Figures::SeparateBits {
+                piece: 1,
+                carrier: 0,
+                earlier: 0,
+                first: 9,
+                last: 9,
+            },
+        ),
+        (
+            &[&[(0, 8), (40, 8)], &[(8, 8), (44, 8)]],
+            Figures::SeparateBits {
+                piece: 1,
+                carrier: 0,
+                earlier: 1,
+                first: 44,
+                last: 47,
+            },
+        ),
+    ];
+    for (carriers, expected) in rows {
+        let plan = plan_of_pieces(rt.alloc(), carriers)?;
+        assert_eq!(rt; figures(plan), Some(expected));
+    }
+    Ok(())
+}
+
 // A plan on option 1 of two carriers of 16 bits, each in a flow of its own.
-fn plan_of_two_flows(alloc: Global, second: Carrier, flow: Flow) -> Result<Plan, NoMemory> {
+fn plan_of_two_flows(alloc: Global, second: Outline, flow: Flow) -> Result<Plan, NoMemory> {
     let carriers = [sampled(1, 1, 8, 0, 16), second];
     let mut plan = plan_with(alloc, 1, 2, &carriers, flow_of(alloc, 7, true, &[0])?)?;
     plan.mode = Mode::Aware;
@@ -227,7 +362,7 @@ fn as_many_carriers_as_a_plan_may_have(rt: HostRuntime) -> Result<(), Fail> {
         let mut flow = flow_of(rt.alloc(), 7, true, &[])?;
         let mut carriers = CarrierList::new(rt.alloc());
         for i in 0..count {
-            carriers.push(sampled(1, 1, 4, 8 * i, 8))?;
+            carriers.push(carrier_of(rt.alloc(), sampled(1, 1, 4, 8 * i, 8))?)?;
             flow.carriers.push(i)?;
         }
         let mut plan = plan_with(rt.alloc(), 7, 2, &[], flow)?;
@@ -244,11 +379,13 @@ fn as_many_flows_as_a_plan_may_have(rt: HostRuntime) -> Result<(), Fail> {
         plan.mode = Mode::Aware;
         plan.flows = FlowList::new(rt.alloc());
         for i in 0..count {
-            plan.carriers.push(sampled(1, 1, 4, 8 * i, 8))?;
+            plan.carriers
+                .push(carrier_of(rt.alloc(), sampled(1, 1, 4, 8 * i, 8))?)?;
             plan.flows.push(flow_of(rt.alloc(), i, i == 0, &[i])?)?;
         }
         if count == 0 {
-            plan.carriers.push(sampled(1, 1, 4, 0, 8))?;
+            plan.carriers
+                .push(carrier_of(rt.alloc(), sampled(1, 1, 4, 0, 8))?)?;
         }
         assert_eq!(rt; outcome(plan), expected);
     }
@@ -346,6 +483,39 @@ fn flows_share_out_the_carriers(rt: HostRuntime) -> Result<(), Fail> {
         outcome_of_flows(alloc, mode, &[(7, true, &[0, 1]), (8, false, &[])])?,
         (10, 1)
     );
+    Ok(())
+}
+
+#[test]
+fn figures_of_flows(rt: HostRuntime) -> Result<(), Fail> {
+    let rows = [
+        ([1, 3, 2, 3, 1], Figures::ArrivalWindow { lmin: 3, lmax: 2 }),
+        (
+            [2, 0, 2, 3, 1],
+            Figures::PlayedInTime {
+                playout: 2,
+                least: 3,
+            },
+        ),
+        ([1, 0, 2, 2, 1], Figures::BufferRoom { cap: 2, needed: 3 }),
+    ];
+    for ([frames, lmin, lmax, cap, p], expected) in rows {
+        let mut flow = flow_of(rt.alloc(), 8, false, &[1])?;
+        flow.frames = frames;
+        flow.lmin = lmin;
+        flow.lmax = lmax;
+        flow.cap = cap;
+        flow.p = p;
+        let plan = plan_of_two_flows(rt.alloc(), sampled(1, 1, 8, 16, 16), flow)?;
+        assert_eq!(rt; figures(plan), Some(expected));
+    }
+    let twice = flow_of(rt.alloc(), 8, false, &[0, 1])?;
+    let plan = plan_of_two_flows(rt.alloc(), sampled(1, 1, 8, 16, 16), twice)?;
+    let sharing = Sharing::Flows {
+        carrier: 0,
+        count: 2,
+    };
+    assert_eq!(rt; figures(plan), Some(Figures::SharedOut(sharing)));
     Ok(())
 }
 

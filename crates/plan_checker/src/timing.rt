@@ -1,7 +1,7 @@
 // The windows, the numbers and the buffer of the packets of a flow.
 ghost use Rattle.std.specs.Prelude.{IsTrue, ◌≡◌, ◌≤◌, ◌↔◌};
 ghost use Rattle.plan_checker.specs.Timing.{HasRoom, HasSequenceNumbers, HasWindow, IsPlayedInTime};
-ghost use Rattle.plan_checker.specs.Window.{IsMostHeld, most_held};
+ghost use Rattle.link_base.specs.Window.{IsMostHeld, most_held};
 
 use carrier_plan::Flow;
 

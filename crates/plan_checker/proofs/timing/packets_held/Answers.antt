@@ -1,6 +1,6 @@
 use Rattle.std.proofs.Common.{◌≡◌, arith, subst, sym}
 use Rattle.std.proofs.lemmas.Grind.{common_steps}
-use Rattle.plan_checker.specs.Window.{IsMostHeld, most_held}
+use Rattle.link_base.specs.Window.{IsMostHeld, most_held}
 use Rattle.plan_checker.proofs.Held.{IsMostHeld-quotient}
 use Rattle.plan_checker.proofs.timing.packets_held.Goals as goal
 

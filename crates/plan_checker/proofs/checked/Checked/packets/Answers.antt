@@ -1,8 +1,9 @@
-use Rattle.std.proofs.Common.{◌≡◌, ◌+◌, ap, arith, slice_index, ◌∙◌}
+use Rattle.std.proofs.Common.{◌≡◌, ◌+◌, ap, arith, ◌∙◌}
 use Rattle.std.specs.Int.{div_ceil}
 use Rattle.carrier_plan.specs.declared.plan.Flow.{Flow}
-use Rattle.plan_checker.specs.Run.{longest_block, packet_frames}
-use Rattle.plan_checker.proofs.Places.{flow_number, frames_of}
+use Rattle.plan_checker.specs.Packets.{run_packets}
+use Rattle.plan_checker.specs.Run.{longest_block}
+use Rattle.plan_checker.proofs.Places.{flow_holds, frames_of}
 use Rattle.plan_checker.proofs.checked.Checked.packets.Goals as goal
 
 pub div_ceil-requires : goal.div_ceil-requires
@@ -13,6 +14,5 @@ div_ceil-requires c =
 pub returns : goal.returns
 returns c =
     let longest : c.from.result ≡ longest_block c.args.self.now = c.from.ensures ∙ c.longest.ensures.value in
-    let frames : c.from-2.result ≡ slice_index (packet_frames c.args.self.now) c.args.f =
-    c.from-2.ensures ∙ flow_number c.self.inside.plan c.args.self.now c.self.view_is (λ (f : Flow). f.frames) c.args.f _ c.at.ensures in
-    c.div_ceil.ensures ∙ (ap (λ n. div_ceil (c.args.h + n) c.from-2.result) longest ∙ ap (λ n. div_ceil (c.args.h + longest_block c.args.self.now) n) frames)
+    flow_holds c.self.inside.plan c.args.self.now c.self.view_is (λ (f : Flow). c.div_ceil.result ≡ run_packets c.args.self.now f c.args.h) c.args.f c.at.result.now c.at.ensures
+    (c.div_ceil.ensures ∙ (ap (λ n. div_ceil (c.args.h + n) c.from-2.result) longest ∙ ap (λ n. div_ceil (c.args.h + longest_block c.args.self.now) n) c.from-2.ensures))
