@@ -1,12 +1,13 @@
 -- Hexadecimal digits: which texts spell octets, and one octet more.
-use Rattle.std.proofs.Common.{◌≡◌, ◌↔◌, ℕ, ◌+◌, ◌*◌, ◌/◌, ◌%◌, ◌<◌, List, [], ◌∷◌, ◌++◌, length, take, get_or, refl, ◌∙◌, ap, arith, append_assoc, Some, IsOk, Ok, Err, MatchResult, Result}
-use Rattle.std.specs.Prelude.{slice_index}
+use Rattle.std.proofs.Common.{◌≡◌, ◌↔◌, ℕ, ◌+◌, ◌*◌, ◌/◌, ◌%◌, ◌<◌, List, [], ◌∷◌, ◌++◌, length, take, get_or, refl, ◌∙◌, ap, arith, append_assoc, Some, None, IsOk, Ok, Err, MatchResult, Result}
+use Rattle.std.specs.Prelude.{slice_index, Bool, true, false, IsTrue, IfNone}
 use Rattle.std.specs.List.{AllPass}
 use Rattle.std.proofs.lemmas.List.{take_more}
 use Rattle.std.proofs.lemmas.Grind.{common_steps}
 use Rattle.hex.specs.Hex.{encode_with, encode_lower, lower_digits, decode_of, decode_sized, is_hex_digit, IsBytes}
 use Rattle.hex.specs.declared.error.FromHexError.{FromHexError}
-use Rattle.hex.proofs.HexLemmas.{length-encode_with, decode_of-encode_lower, IsOk-decode_sized, IsOk-written}
+use Rattle.hex.proofs.HexLemmas.{decode_of-ok, length-encode_with, decode_of-encode_lower, IsOk-decode_sized, IsOk-written}
+use Rattle.std.specs.Bool.{then_some}
 use Rattle.std.specs.Result.{result_ok}
 use Rattle.link_text.specs.Hexadecimal.{spelled_octets}
 
@@ -50,3 +51,17 @@ spelled (c ∷ text) some = refl
 pub spelled_octets-encode_lower : (xs : List ℕ) → IsBytes xs → 0 < length xs → spelled_octets (encode_lower xs) ≡ Some xs
 spelled_octets-encode_lower xs bytes some =
     spelled (encode_lower xs) (omega (arith, length-encode_with lower_digits xs)) ∙ ap (λ (r : Result (List ℕ) FromHexError). result_ok r) (decode_of-encode_lower xs bytes)
+
+-- a text that has no digits alone spells no octets
+spelled_by : (text : List ℕ) (read : Result (List ℕ) FromHexError) → decode_of text ≡ read → ((octets : List ℕ) → decode_of text ≡ Ok octets → ⊥) → result_ok read ≡ None
+spelled_by text (Ok octets) is never = absurd (never octets is)
+spelled_by text (Err e) is never = refl
+
+spelled_none : (text : List ℕ) → ((0 < length text) × (length text % 2 ≡ 0) × AllPass is_hex_digit text → ⊥) → spelled_octets text ≡ None
+spelled_none [] never = refl
+spelled_none (c ∷ text) never =
+    spelled_by (c ∷ text) (decode_of (c ∷ text)) refl (λ octets is. let ok = decode_of-ok (c ∷ text) octets is in never (omega arith, ok.0, ok.1))
+
+pub none_decoded : (text : List ℕ) (all : Bool) (n : ℕ) → IsTrue all ↔ AllPass is_hex_digit text → IfNone (then_some all n) (spelled_octets text ≡ None)
+none_decoded text true n digits = tt
+none_decoded text false n digits = spelled_none text (λ all. absurd (let no = digits.1 all.2 in cc))

@@ -7,3 +7,6 @@ pub mod LineLemmas
 pub mod LinesOf
 pub mod Next
 pub mod Refills
+pub mod Gathering
+pub mod GatheredLines
+pub mod PrintedLines

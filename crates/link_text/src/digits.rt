@@ -1,5 +1,5 @@
 // Octets as hexadecimal digits.
-ghost use Rattle.std.specs.Prelude.{◌≡◌, ℕ, List, ◌+◌, ◌*◌, ◌/◌, ◌%◌, ◌<◌, ◌≤◌, ◌↔◌, [], ◌∷◌, ◌++◌, slice_index, take, drop, length, Some, IsSome, IfSome, IsTrue, Ok};
+ghost use Rattle.std.specs.Prelude.{◌≡◌, ℕ, List, ◌+◌, ◌*◌, ◌/◌, ◌%◌, ◌<◌, ◌≤◌, ◌↔◌, [], ◌∷◌, ◌++◌, slice_index, take, drop, length, Some, None, IsSome, IfSome, IfNone, IsTrue, Ok};
 ghost use Rattle.std.specs.List.{AllPass};
 ghost use Rattle.arrayvec.specs.ArrayVec.{array_vec_len};
 ghost use Rattle.hex.specs.Hex.{decode_of, is_hex_digit, encode_lower, lower_digits, IsBytes};
@@ -30,6 +30,7 @@ pub fn octets(text: &[u8], out: &mut [u8]) -> Option<usize>
     ensures found { IsSome result ↔ ((0 < length text.now) × (length text.now % 2 ≡ 0) × AllPass is_hex_digit text.now) }
     ensures count { IfSome result (λ n. n ≡ length text.now / 2) }
     ensures value { IfSome result (λ n. spelled_octets text.now ≡ Some (take n out.new)) }
+    ensures none { IfNone result (spelled_octets text.now ≡ None) }
     ensures others { drop (length text.now / 2) out.new ≡ drop (length text.now / 2) out.old }
 {
     let half = text.len() / 2;

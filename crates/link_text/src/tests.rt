@@ -1,9 +1,10 @@
 //! Lines in pieces and with failures, and numbers and digits at their ends.
-use crate::{Line, LineReader, decimal, octets, put_hex, put_number, signed};
+use crate::{Line, LineReader, TextBuffer, decimal, octets, put_hex, put_number, signed};
 use arrayvec::ArrayVec;
-use link_base::{MemShelf, Shelf};
+use link_base::{MemShelf, MemSink, Shelf};
 use std::alloc::Global;
 use std::process::Abort;
+use std::test::Fail;
 
 const FILE: &[u8; 22] = b"capture 0\n\n5 00fF\nend\n";
 
@@ -212,4 +213,24 @@ fn numbers_and_digits_are_written(rt: HostRuntime) {
     put_hex(&mut out, &[]);
     let want = b"-922337203685477580892233720368547758070009afe";
     assert_eq!(rt; out.as_slice(), &want[..]);
+}
+
+#[test]
+fn numbers_are_gathered_and_written_as_text(rt: HostRuntime) -> Result<(), Fail> {
+    let mut text = TextBuffer::new();
+    let mut out = MemSink::new(rt.alloc(), 64, 7)?;
+    text.put_number(0);
+    text.put_octet(b' ');
+    text.put_number(9);
+    text.put(b" ");
+    text.put_number(10);
+    text.put_octet(b' ');
+    text.put_number(99);
+    text.put_octet(b' ');
+    text.put_number(100);
+    text.put_octet(b' ');
+    text.put_signed(-1);
+    text.flush(&mut out)?;
+    assert_eq!(rt; out.octets(), b"0 9 10 99 100 -1".as_slice());
+    Ok(())
 }
