@@ -16,7 +16,8 @@ use Rattle.link_receiver.specs.Addressed.{IsFor, IsForNone}
 use Rattle.link_receiver.specs.Arrivals.{candidate_of, on_candidate, on_flow, on_flow_id, on_octets}
 use Rattle.link_receiver.specs.declared.arrive.Arrive.TheVariants.{Outside, Size, Foreign}
 use Rattle.link_receiver.specs.declared.arrive.Foreign.TheVariants as cause
-use Rattle.link_receiver.specs.Records.{Record, is_of_flow, fits, is_candidate, is_candidate_of, payload_by}
+use Rattle.link_base.specs.Record.{Record}
+use Rattle.link_receiver.specs.Records.{is_of_flow, fits, is_candidate, is_candidate_of, payload_by}
 use Rattle.link_receiver.specs.Simple.{IsSimple}
 use Rattle.link_receiver.proofs.Candidates.{unique_in_plan, candidate_parts}
 use Rattle.link_receiver.proofs.SimplePlans.{IsTheFlow, IsTheFlow-first, flow_contained, first_flow, octets_of_frame-simple, run_packets-simple}

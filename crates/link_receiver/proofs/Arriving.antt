@@ -16,7 +16,8 @@ use Rattle.link_receiver.specs.Arrivals.{on_octets, arrives}
 use Rattle.link_receiver.specs.declared.arrive.Arrive.{Arrive}
 use Rattle.link_receiver.specs.declared.arrive.Arrive.TheVariants.{Taken, Repeat}
 use Rattle.link_receiver.specs.Received.{received}
-use Rattle.link_receiver.specs.Records.{Record, payload_by, payload_for}
+use Rattle.link_base.specs.Record.{Record}
+use Rattle.link_receiver.specs.Records.{payload_by, payload_for}
 use Rattle.link_receiver.specs.Sessions.{all_received, HoldsReceived}
 use Rattle.link_receiver.proofs.Entries.{map-ranges}
 

@@ -11,7 +11,7 @@ use Rattle.plan_checker.specs.Packets.{sequence_of, run_packets}
 use Rattle.plan_checker.specs.Rules.{IsGood}
 use Rattle.plan_checker.specs.Rules.Rule.{PayloadSize, ArrivalWindow, SequenceNumbers}
 use Rattle.plan_checker.specs.Timing.{HasWindow, HasSequenceNumbers}
-use Rattle.plan_checker.specs.Window.{last_frame}
+use Rattle.link_base.specs.Window.{last_frame}
 use Rattle.link_receiver.specs.Records.{is_candidate, is_candidate_of}
 
 -- a number of which a remainder is known is no less than the next lower one plus the modulus

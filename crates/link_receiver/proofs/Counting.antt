@@ -7,8 +7,6 @@ use Rattle.std.proofs.lemmas.List.Sums.{sum_by-cons}
 use Rattle.std.proofs.lemmas.Option.{slice_get_within, get_or_from_slice_get}
 use Rattle.carrier_plan.specs.declared.plan.Flow.{Flow}
 use Rattle.carrier_plan.specs.declared.plan.Plan.{Plan}
-use Rattle.plan_checker.specs.Packets.{run_packets}
-use Rattle.plan_checker.specs.Run.{longest_block, packets_of_run}
 
 -- one place more
 flat_map-next : {X : Type 0} (f : ℕ → List X) (a n : ℕ) → flat_map f (range_with_len a (suc n)) ≡ flat_map f (range_with_len a n) ++ f (a + n)
@@ -26,9 +24,3 @@ count_by-map test f [] = refl
 count_by-map test f (x ∷ xs) =
     sum_by-cons (λ y. cond (test y) 1 0) (f x) (map f xs) ∙ ap (λ k. cond (test (f x)) 1 0 + k) (count_by-map test f xs)
     ∙ sym (sum_by-cons (λ y. cond (test (f y)) 1 0) x xs)
-
-index-map : {X : Type 0} (g : X → ℕ) (xs : List X) (i : ℕ) (x : X) → slice_get xs i ≡ Some x → slice_index (map g xs) i ≡ g x
-index-map g xs i x read = get_or-map g xs i x 0 (slice_get_within xs i x read) ∙ ap g (get_or_from_slice_get xs i x x read)
-
-pub packets_of_run-at : (p : Plan) (i h : ℕ) (f : Flow) → slice_get p.flows i ≡ Some f → packets_of_run p i h ≡ run_packets p f h
-packets_of_run-at p i h f read = ap (div_ceil (h + longest_block p)) (index-map (λ (g : Flow). g.frames) p.flows i f read)

@@ -11,17 +11,17 @@ use Rattle.carrier_plan.specs.declared.plan.Flow.{Flow}
 use Rattle.carrier_plan.specs.declared.plan.Plan.{Plan}
 use Rattle.link_base.specs.Bits.{bit_of}
 use Rattle.plan_checker.specs.Flows.{octets_of_frame}
+use Rattle.plan_checker.specs.Run.{delay_of, samples_due}
 use Rattle.plan_checker.specs.Packets.{run_packets}
 use Rattle.plan_checker.specs.Place.{place_of}
 use Rattle.plan_checker.specs.Rules.{IsGood}
-use Rattle.plan_checker.specs.Run.{delay_of, samples_due}
 use Rattle.sample_bits.specs.declared.iq.RawIq.{RawIq}
 use Rattle.sample_bits.proofs.OctetLemmas.{bit_of-take}
-use Rattle.link_receiver.specs.Block.{sample_in, block_entry}
+use Rattle.link_receiver.specs.Block.{sample_in, block_entry, start_of}
 use Rattle.link_receiver.specs.declared.session.Entry.{Entry}
 use Rattle.link_receiver.specs.Output.{bit_if_received, bit_of_part, bit_at_place, is_marked, value_in, value_of, entry_of, entries_handed_in, entries_by, entries_of}
 use Rattle.link_receiver.specs.Received.{received, part_of_frame, is_missed}
-use Rattle.link_receiver.specs.Records.{Record}
+use Rattle.link_base.specs.Record.{Record}
 use Rattle.link_receiver.specs.Samples.{sample_of_bits}
 use Rattle.link_receiver.specs.Sessions.{HoldsReceived}
 use Rattle.link_receiver.specs.Simple.{IsSimple}
@@ -96,13 +96,13 @@ module _ (p : Plan) (h : ℕ) (records : List Record) (f : Flow) (c : ℕ) (carr
       ∙ ap is_none (part-simple (n + 1)) ∙ is_none-option_map (take 16) (received p f h records (n + 1)))
 
   bit-simple : (n r b : ℕ) (payload : List ℕ) → r < carrier.s → b < 2 * carrier.m → received p f h records (n + 1) ≡ Some payload
-      → bit_at_place p f h records (place_of carrier (n * carrier.s + r) b) ≡ bit_of payload (8 + carrier.start + 2 * carrier.m * r + b)
+      → bit_at_place p f h records (place_of carrier (n * carrier.s + r) b) ≡ bit_of payload (8 + start_of carrier + 2 * carrier.m * r + b)
   bit-simple n r b payload low less e =
-      let x = carrier.start + (2 * carrier.m * r + b) in
+      let x = start_of carrier + (2 * carrier.m * r + b) in
       let inside = bit_within carrier.m carrier.s r b low less in
       let size = is.size in
       let within = is.within in
-      let place : 8 * 1 + x ≡ 8 + carrier.start + 2 * carrier.m * r + b = omega arith in
+      let place : 8 * 1 + x ≡ 8 + start_of carrier + 2 * carrier.m * r + b = omega arith in
       ap (bit_at_place p f h records) (place_of-due carrier n r b is low less)
       ∙ ap (bit_if_received p x) (part-simple (n + 1) ∙ ap (option_map (take 16)) e)
       ∙ ap (λ mode. bit_of_part mode p (take 16 payload) x) simple.mode
@@ -120,7 +120,7 @@ module _ (p : Plan) (h : ℕ) (records : List Record) (f : Flow) (c : ℕ) (carr
       let j = n * carrier.s + r in
       let bits : ℕ → ℕ = (λ b. bit_at_place p f h records (place_of carrier j b)) in
       ap (λ t. cond t None (Some (sample_of_bits carrier.m bits))) (marked-simple n r low ∙ ap is_none e)
-      ∙ ap Some (sample_of_bits-same carrier.m bits (λ b. bit_of payload (8 + carrier.start + 2 * carrier.m * r + b)) (λ b less. bit-simple n r b payload low less e))
+      ∙ ap Some (sample_of_bits-same carrier.m bits (λ b. bit_of payload (8 + start_of carrier + 2 * carrier.m * r + b)) (λ b less. bit-simple n r b payload low less e))
 
   value-simple : (n r : ℕ) → r < carrier.s → value_of p h records c carrier (n * carrier.s + r) ≡ sample_in carrier (received p f h records (n + 1)) r
   unfolding value_of

@@ -19,7 +19,8 @@ use Rattle.link_receiver.specs.Block.{block_entry}
 use Rattle.link_receiver.specs.Laws.{EntriesAreSettled, TakenIsSettled}
 use Rattle.link_receiver.specs.Output.{entries_of, entries_at}
 use Rattle.link_receiver.specs.Received.{received, taken}
-use Rattle.link_receiver.specs.Records.{Record, fits, is_candidate, payload_by, payload_for}
+use Rattle.link_base.specs.Record.{Record}
+use Rattle.link_receiver.specs.Records.{fits, is_candidate, payload_by, payload_for}
 use Rattle.link_receiver.specs.Simple.{IsSimple}
 use Rattle.link_receiver.proofs.Arriving.{received-none}
 use Rattle.link_receiver.proofs.Candidates.{candidate_parts}

@@ -1,30 +1,42 @@
 -- The numbers of a good plan that is played so far.
 use Rattle.std.proofs.Common.{◌≡◌, ℕ, zero, suc, ◌+◌, ◌-◌, ◌*◌, ◌/◌, ◌%◌, ◌<◌, ◌≤◌, true, IsTrue, List, [], ◌∷◌, length, map, fold, max, get_or, slice_index, All, Contains, Some, None, slice_get, cond, eqb, sym, refl, ap, ◌∙◌, subst, arith}
 use Rattle.std.specs.Int.{div_ceil}
-use Rattle.std.specs.List.{find, list_any, range_with_len}
+use Rattle.std.specs.List.{HoldsAt, find, list_any, range_with_len}
 use Rattle.std.proofs.Math.Nat.{div-one, mod-one}
-use Rattle.std.proofs.lemmas.Bool.{eq-eqb}
+use Rattle.std.proofs.lemmas.Bool.{eq-eqb, lt-ltb}
 use Rattle.std.proofs.lemmas.Nat.{div-add-mod', div-mul-add, mod-mul-add, mod_below, mul-add-lt, div_below}
-use Rattle.std.proofs.lemmas.Option.{slice_get_within, same_Some}
+use Rattle.std.proofs.lemmas.Option.{get_or_from_slice_get, slice_get_within, same_Some}
+use Rattle.std.proofs.lemmas.List.{get_or-map}
 use Rattle.std.proofs.lemmas.List.Elements.{All-head}
 use Rattle.std.proofs.lemmas.List.Folds.{list_any_at}
 use Rattle.std.proofs.lemmas.List.FromFn.{length-range_with_len, get_or-range_with_len}
 use Rattle.carrier_plan.specs.declared.plan.Carrier.{Carrier}
 use Rattle.carrier_plan.specs.declared.plan.Flow.{Flow}
 use Rattle.carrier_plan.specs.declared.plan.Method.TheVariants.{Sample}
+use Rattle.carrier_plan.specs.declared.plan.Piece.{Piece}
 use Rattle.carrier_plan.specs.declared.plan.Plan.{Plan}
 use Rattle.plan_checker.specs.WordSize.{word_size, iq_bits}
 use Rattle.plan_checker.specs.SampleRate.{HasSampleRate, HasSampleWidth}
-use Rattle.plan_checker.specs.Container.{HasPrescribedSize, LiesWithin, prescribed_size, size_by}
+use Rattle.plan_checker.specs.Container.{HasPrescribedSize, LiesWithin, container_size, pieces_size, prescribed_size, size_by}
 use Rattle.plan_checker.specs.Flows.{CarriesWholeFrames, IsOneWholeFlow, lists, octets_by, octets_of_frame}
+use Rattle.plan_checker.specs.Run.{IsDue, block_lengths, block_samples, delay_of, longest_block, samples_before, samples_due}
 use Rattle.plan_checker.specs.Packets.{run_packets}
-use Rattle.plan_checker.specs.Place.{BitPlace, place_by, place_of}
+use Rattle.plan_checker.specs.Place.{BitPlace, iq_bit, place_in_block, place_of, place_of_block}
 use Rattle.plan_checker.specs.Rules.{IsGood}
 use Rattle.plan_checker.specs.Rules.Rule.{Counts, WholeFrames, SampleRate, SampleWidth, ContainerSize, ContainerEnd}
-use Rattle.plan_checker.specs.Run.{IsDue, block_lengths, block_samples, delay_of, longest_block, samples_before, samples_due}
-use Rattle.plan_checker.proofs.Longest.{greatest_reached_some}
-use Rattle.plan_checker.proofs.Places.{at_place, number_at}
+use Rattle.axc_sample_map.specs.Place as sample_map
+use Rattle.sample_bits.specs.BlockPlace.{BlockPlace}
+use Rattle.link_receiver.specs.Block.{first_bit, start_of}
 use Rattle.link_receiver.specs.Simple.{IsSimple}
+
+-- ---- items
+
+-- an item that was read has what holds at its place
+pub at_place : {A : Type 0} (P : A → Type 0) (xs : List A) (i : ℕ) (x : A) → slice_get xs i ≡ Some x → HoldsAt P xs i → P x
+at_place P xs i x read h = subst P (get_or_from_slice_get xs i x x read) (h x)
+
+number_at : {A : Type 0} (f : A → ℕ) (xs : List A) (i : ℕ) (x : A) → slice_get xs i ≡ Some x → slice_index (map f xs) i ≡ f x
+number_at f xs i x read = get_or-map f xs i x 0 (slice_get_within xs i x read) ∙ ap f (get_or_from_slice_get xs i x x read)
 
 -- ---- numbers
 
@@ -130,16 +142,23 @@ iq_bits-simple p simple = ap iq_bits simple.option
 pub octets_of_frame-simple : (p : Plan) (f : Flow) → IsSimple p → octets_of_frame p f ≡ 16
 octets_of_frame-simple p f simple = ap (λ mode. octets_by mode p f) simple.mode ∙ ap (λ option. 16 * word_size option) simple.option
 
-longest_block-one : (cs : List Carrier) → 0 < length cs → All (λ (c : Carrier). c.k ≡ 1) cs → fold max 0 (map (λ (c : Carrier). c.k) cs) ≡ 1
-longest_block-one cs some blocks =
-    let reached = greatest_reached_some cs some in
-    let one = blocks reached.0 reached.1 reached.2 in
-    let same : (get_or cs reached.0 reached.1).k ≡ reached.1.k = ap (λ (c : Carrier). c.k) reached.3 in
-    sym reached.4 ∙ sym same ∙ one
+longest_block-one : (a : ℕ) (cs : List Carrier) → All (λ (c : Carrier). c.k ≡ 1) cs → fold max (suc a) (map (λ (c : Carrier). c.k) cs) ≡ suc a
+longest_block-one a [] blocks = refl
+longest_block-one a (c ∷ cs) blocks =
+    let one : c.k ≡ 1 = blocks 0 c (omega arith) in
+    let most : max (suc a) c.k ≡ suc a = omega arith in
+    ap (λ n. fold max n (map (λ (x : Carrier). x.k) cs)) most ∙ longest_block-one a cs (λ k d lt. blocks (suc k) d (omega arith))
+
+longest_block-some : (cs : List Carrier) → 0 < length cs → All (λ (c : Carrier). c.k ≡ 1) cs → fold max 0 (map (λ (c : Carrier). c.k) cs) ≡ 1
+longest_block-some [] some blocks = absurd (omega arith)
+longest_block-some (c ∷ cs) some blocks =
+    let one : c.k ≡ 1 = blocks 0 c (omega arith) in
+    let most : max 0 c.k ≡ 1 = omega arith in
+    ap (λ n. fold max n (map (λ (x : Carrier). x.k) cs)) most ∙ longest_block-one 0 cs (λ k d lt. blocks (suc k) d (omega arith))
 
 pub longest_block-simple : (p : Plan) → IsGood p → IsSimple p → longest_block p ≡ 1
 longest_block-simple p good simple =
-    longest_block-one p.carriers (good Counts 0 (omega arith)).some_carriers simple.blocks
+    longest_block-some p.carriers (good Counts 0 (omega arith)).some_carriers simple.blocks
 
 pub run_packets-simple : (p : Plan) (f : Flow) (h : ℕ) → IsGood p → IsSimple p → IsTheFlow p f → run_packets p f h ≡ h + 1
 run_packets-simple p f h good simple the =
@@ -155,14 +174,26 @@ pub record IsSimpleCarrier (carrier : Carrier) : Type 0 where
   pub few_samples : carrier.s ≤ 32
   pub wide : 4 ≤ carrier.m
   pub narrow : carrier.m ≤ 20
-  pub size : carrier.size ≡ 2 * carrier.m * carrier.s
-  pub within : carrier.start + carrier.size ≤ 120
+  pub piece : length carrier.pieces ≡ 1
+  pub size : container_size carrier ≡ 2 * carrier.m * carrier.s
+  pub within : start_of carrier + 2 * carrier.m * carrier.s ≤ 120
 
 prescribed_size-simple : (carrier : Carrier) → carrier.method ≡ Sample → carrier.k ≡ 1 → prescribed_size carrier ≡ 2 * carrier.m * carrier.s
 prescribed_size-simple carrier method k =
-    ap (λ how. size_by how carrier.s carrier.k carrier.m) method
+    ap (λ how. size_by how carrier.m carrier.s carrier.k) method
     ∙ ap (λ n. 2 * div_ceil (carrier.m * carrier.s) n) k
     ∙ ap (λ n. 2 * n) (div_ceil-one (carrier.m * carrier.s)) ∙ omega arith
+
+-- a container in one piece
+piece_end : (n : ℕ) (pieces : List Piece) → length pieces ≡ 1 → All (λ (p : Piece). p.start + p.size ≤ n) pieces → first_bit pieces + pieces_size pieces ≤ n
+piece_end n [] one within = absurd (omega arith)
+piece_end n (p ∷ []) one within = let end = within 0 p (omega arith) in omega (arith, end)
+piece_end n (p ∷ q ∷ ps) one within = absurd (omega arith)
+
+pub iq_bit-one : (pieces : List Piece) (b : ℕ) → length pieces ≡ 1 → b < pieces_size pieces → iq_bit pieces b ≡ first_bit pieces + b
+iq_bit-one [] b one low = absurd (omega arith)
+iq_bit-one (p ∷ []) b one low = rw (lt-ltb b p.size (omega arith)) refl
+iq_bit-one (p ∷ q ∷ ps) b one low = absurd (omega arith)
 
 pub simple_carrier : (p : Plan) (c : ℕ) (carrier : Carrier) → IsGood p → IsSimple p → slice_get p.carriers c ≡ Some carrier → IsSimpleCarrier carrier
 simple_carrier p c carrier good simple read =
@@ -173,15 +204,20 @@ simple_carrier p c carrier good simple read =
     let width = at_place HasSampleWidth p.carriers c carrier read (good SampleWidth c lt) in
     let size = at_place HasPrescribedSize p.carriers c carrier read (good ContainerSize c lt) in
     let end = at_place (LiesWithin (iq_bits p.option)) p.carriers c carrier read (good ContainerEnd c lt) in
+    let piece : length carrier.pieces ≡ 1 = at_place (λ (x : Carrier). length x.pieces ≡ 1) p.carriers c carrier read (λ d. simple.pieces c d lt) in
+    let whole : container_size carrier ≡ 2 * carrier.m * carrier.s = size.prescribed ∙ prescribed_size-simple carrier method k in
+    let last = piece_end (iq_bits p.option) carrier.pieces piece end in
+    let bits = iq_bits-simple p simple in
     record {
       method = method;
       k = k;
+      piece = piece;
       some_samples = rate.some_samples;
       few_samples = omega (arith, rate.slow);
       wide = width.0;
       narrow = width.1;
-      size = size ∙ prescribed_size-simple carrier method k;
-      within = subst (λ n. carrier.start + carrier.size ≤ n) (iq_bits-simple p simple) end;
+      size = whole;
+      within = omega (arith, last, bits, whole);
     }
 
 block_samples-at : (p : Plan) (c : ℕ) (carrier : Carrier) → slice_get p.carriers c ≡ Some carrier → slice_index (block_samples p) c ≡ carrier.s
@@ -207,32 +243,40 @@ samples_due-simple p c carrier n good simple read =
 
 -- ---- where the bits of a sample stand
 
-place_by-simple : (carrier : Carrier) (j b : ℕ) → carrier.k ≡ 1 → prescribed_size carrier ≡ 2 * carrier.m * carrier.s → 1 ≤ carrier.s → b < 2 * carrier.m
-    → place_by Sample carrier j b ≡ record { frame = j / carrier.s + 1; bit = carrier.start + (2 * carrier.m * (j % carrier.s) + b) }
-unfolding place_by
-place_by-simple carrier j b k size some within =
-    let g = 2 * carrier.m * (j % carrier.s) + b in
+place_in_block-simple : (carrier : Carrier) (r b : ℕ) → IsSimpleCarrier carrier → r < carrier.s → b < 2 * carrier.m
+    → place_in_block carrier.method carrier.m carrier.s carrier.k r b ≡ record { phase = 0; bit = 2 * carrier.m * r + b }
+unfolding sample_map.place_in_block
+place_in_block-simple carrier r b simple row within =
+    let g = 2 * carrier.m * r + b in
     let n = 2 * carrier.m * carrier.s in
-    let low : g < n = bit_within carrier.m carrier.s (j % carrier.s) b (mod_below j carrier.s some) within in
-    let place : ℕ → ℕ → BitPlace = λ frame bit. record { frame = frame; bit = bit } in
-    let frame : (j / carrier.s + 1) * 1 + g / n ≡ j / carrier.s + 1 = omega (arith, div_small g n low) in
-    ap (λ x. place ((j / carrier.s + 1) * carrier.k + g / x) (carrier.start + g % x)) size
-    ∙ ap (λ x. place ((j / carrier.s + 1) * x + g / n) (carrier.start + g % n)) k
-    ∙ ap (λ x. place x (carrier.start + g % n)) frame
-    ∙ ap (λ x. place (j / carrier.s + 1) (carrier.start + x)) (mod_small g n low)
+    let low : g < n = bit_within carrier.m carrier.s r b row within in
+    let size : size_by Sample carrier.m carrier.s carrier.k ≡ n = ap (λ how. size_by how carrier.m carrier.s carrier.k) (sym simple.method) ∙ prescribed_size-simple carrier simple.method simple.k in
+    let place : ℕ → ℕ → BlockPlace = λ phase bit. record { phase = phase; bit = bit } in
+    ap (λ how. place_in_block how carrier.m carrier.s carrier.k r b) simple.method
+    ∙ ap (λ x. place (g / x) (g % x)) size
+    ∙ ap (λ x. place x (g % n)) (div_small g n low)
+    ∙ ap (place 0) (mod_small g n low)
 
 -- of sample j
 pub place_of-simple : (carrier : Carrier) (j b : ℕ) → IsSimpleCarrier carrier → b < 2 * carrier.m
-    → place_of carrier j b ≡ record { frame = j / carrier.s + 1; bit = carrier.start + (2 * carrier.m * (j % carrier.s) + b) }
+    → place_of carrier j b ≡ record { frame = j / carrier.s + 1; bit = start_of carrier + (2 * carrier.m * (j % carrier.s) + b) }
 place_of-simple carrier j b simple within =
-    ap (λ how. place_by how carrier j b) simple.method
-    ∙ place_by-simple carrier j b simple.k (prescribed_size-simple carrier simple.method simple.k) simple.some_samples within
+    let r = j % carrier.s in
+    let g = 2 * carrier.m * r + b in
+    let row = mod_below j carrier.s simple.some_samples in
+    let low : g < container_size carrier = (let inside = bit_within carrier.m carrier.s r b row within in let size = simple.size in omega arith) in
+    let place : ℕ → ℕ → BitPlace = λ frame bit. record { frame = frame; bit = bit } in
+    let frame : (j / carrier.s + 1) * 1 + 0 ≡ j / carrier.s + 1 = omega arith in
+    ap (place_of_block carrier (j / carrier.s)) (place_in_block-simple carrier r b simple row within)
+    ∙ ap (λ x. place ((j / carrier.s + 1) * x + 0) (iq_bit carrier.pieces g)) simple.k
+    ∙ ap (λ x. place x (iq_bit carrier.pieces g)) frame
+    ∙ ap (place (j / carrier.s + 1)) (iq_bit-one carrier.pieces g simple.piece low)
 
 -- of the r-th sample that is handed in at tick n
 pub place_of-due : (carrier : Carrier) (n r b : ℕ) → IsSimpleCarrier carrier → r < carrier.s → b < 2 * carrier.m
-    → place_of carrier (n * carrier.s + r) b ≡ record { frame = n + 1; bit = carrier.start + (2 * carrier.m * r + b) }
+    → place_of carrier (n * carrier.s + r) b ≡ record { frame = n + 1; bit = start_of carrier + (2 * carrier.m * r + b) }
 place_of-due carrier n r b simple low within =
-    let place : ℕ → ℕ → BitPlace = λ frame row. record { frame = frame + 1; bit = carrier.start + (2 * carrier.m * row + b) } in
+    let place : ℕ → ℕ → BitPlace = λ frame row. record { frame = frame + 1; bit = start_of carrier + (2 * carrier.m * row + b) } in
     place_of-simple carrier (n * carrier.s + r) b simple within
     ∙ ap (λ x. place x ((n * carrier.s + r) % carrier.s)) (div-mul-add n carrier.s r low)
     ∙ ap (place n) (mod-mul-add n carrier.s r low)

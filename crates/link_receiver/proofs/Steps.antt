@@ -1,6 +1,6 @@
 -- What a session stands for after each call.
 use Rattle.std.proofs.Common.{◌≡◌, ℕ, zero, suc, ◌+◌, ◌<◌, ◌≤◌, ◌^◌, cond, IsTrue, ◌⊎◌, List, [], ◌∷◌, ◌++◌, length, map, All, count_by, slice_get, slice_set, get_or, replicate, Option, Some, None, refl, sym, ap, ◌∙◌, subst, arith, inl, inr}
-use Rattle.std.specs.List.{range_with_len}
+use Rattle.std.specs.List.{HoldsAt, range_with_len}
 use Rattle.std.specs.Option.{is_some}
 use Rattle.std.proofs.lemmas.List.{length-replicate}
 use Rattle.std.proofs.lemmas.List.Elements.{All-push}
@@ -10,7 +10,6 @@ use Rattle.carrier_plan.specs.declared.plan.Plan.{Plan}
 use Rattle.plan_checker.specs.Packets.{run_packets}
 use Rattle.plan_checker.specs.Rules.{IsGood}
 use Rattle.plan_checker.specs.Rules.Rule.{PlayedInTime}
-use Rattle.plan_checker.specs.Run.{packets_of_run}
 use Rattle.plan_checker.specs.Timing.{IsPlayedInTime}
 use Rattle.roe_header.specs.Layout.{parsed}
 use Rattle.link_receiver.specs.Addressed.{IsFor, IsForNone}
@@ -19,13 +18,13 @@ use Rattle.link_receiver.specs.declared.arrive.Arrive.{Arrive}
 use Rattle.link_receiver.specs.declared.arrive.Arrive.TheVariants.{Taken, Repeat}
 use Rattle.link_receiver.specs.Output.{entries_before}
 use Rattle.link_receiver.specs.Received.{received, taken}
-use Rattle.link_receiver.specs.Records.{Record}
+use Rattle.link_base.specs.Record.{Record}
 use Rattle.link_receiver.specs.Sessions.{SessionView, IsSession, StandsFor, HoldsReceived}
 use Rattle.link_receiver.specs.Simple.{IsSimple}
 use Rattle.link_receiver.proofs.Arriving.{none_arrives, repeat_arrives, taken_arrives}
-use Rattle.link_receiver.proofs.Counting.{count_by-map, packets_of_run-at}
+use Rattle.link_receiver.proofs.Counting.{count_by-map}
 use Rattle.link_receiver.proofs.Settled.{EntriesAreSettled-holds}
-use Rattle.link_receiver.proofs.SimplePlans.{IsTheFlow, the_flow, first_flow, flow_contained, longest_block-simple, run_packets-simple}
+use Rattle.link_receiver.proofs.SimplePlans.{IsTheFlow, at_place, the_flow, first_flow, flow_contained, longest_block-simple, run_packets-simple}
 
 -- the entries of the tick before are not changed by a record of the present tick
 late_tick : (t : ℕ) (octets : List ℕ) (k : ℕ) (d : Record) → k < 1 → t < (get_or (record { tick = suc t; octets = octets } ∷ []) k d).tick
@@ -132,32 +131,34 @@ pub record IsBegun (s : SessionView) (p : Plan) (h : ℕ) : Type 0 where
   pub plan : s.plan ≡ p
   pub frames : s.frames ≡ h
   pub tick : s.tick ≡ 0
-  pub payloads : s.payloads ≡ replicate (packets_of_run p 0 h) None
+  pub packets : ℕ
+  pub counted : HoldsAt (λ flow. packets ≡ run_packets p flow h) p.flows 0
+  pub payloads : s.payloads ≡ replicate packets None
   pub taken : s.taken ≡ 0
   pub entries : s.entries ≡ []
 
-packets_at_beginning : (p : Plan) (f : Flow) (h : ℕ) → IsGood p → IsSimple p → IsTheFlow p f → packets_of_run p 0 h ≡ h + 1
-packets_at_beginning p f h good simple the = packets_of_run-at p 0 h f (first_flow p f the) ∙ run_packets-simple p f h good simple the
+packets_at : (s : SessionView) (p : Plan) (h : ℕ) (is : IsBegun s p h) (f : Flow) → slice_get p.flows 0 ≡ Some f → is.packets ≡ run_packets p f h
+packets_at s p h is f read = at_place (λ (flow : Flow). is.packets ≡ run_packets p flow h) p.flows 0 f read is.counted
 
 pub session_begun : (s : SessionView) (p : Plan) (h : ℕ) → IsGood p → IsSimple p → h ≤ 2 ^ 40 → IsBegun s p h → IsSession s
 session_begun s p h good simple few is =
     let flow = the_flow p good simple in
-    let count = packets_at_beginning p flow.0 h good simple flow.1 in
+    let count = packets_at s p h is flow.0 (first_flow p flow.0 flow.1) ∙ run_packets-simple p flow.0 h good simple flow.1 in
     let frames = is.frames in
     let tick = is.tick in record {
       good = subst IsGood (sym is.plan) good;
       simple = subst IsSimple (sym is.plan) simple;
       few = omega arith;
       present = omega arith;
-      long = ap length is.payloads ∙ length-replicate (packets_of_run p 0 h) None ∙ count ∙ ap (λ k. k + 1) (sym frames);
-      counted = is.taken ∙ none_counted (packets_of_run p 0 h) ∙ ap (count_by is_some) (sym is.payloads);
+      long = ap length is.payloads ∙ length-replicate is.packets None ∙ count ∙ ap (λ k. k + 1) (sym frames);
+      counted = is.taken ∙ none_counted is.packets ∙ ap (count_by is_some) (sym is.payloads);
     }
 
 pub stands_begun : (s : SessionView) (p : Plan) (h : ℕ) → IsBegun s p h → StandsFor s []
 stands_begun s p h is = record {
   arrived = λ k d less. absurd (omega arith);
   payloads = subst (λ q. HoldsReceived q s.frames s.payloads []) (sym is.plan) (subst (λ k. HoldsReceived p k s.payloads []) (sym is.frames)
-      (λ f read. is.payloads ∙ none_received 0 (packets_of_run p 0 h) ∙ ap (λ n. map (λ (i : ℕ). None) (range_with_len 0 n)) (packets_of_run-at p 0 h f read)));
+      (λ f read. is.payloads ∙ none_received 0 is.packets ∙ ap (λ n. map (λ (i : ℕ). None) (range_with_len 0 n)) (packets_at s p h is f read)));
   entries = is.entries ∙ sym (ap (entries_before s.plan s.frames []) is.tick);
 }
 

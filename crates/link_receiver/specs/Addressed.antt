@@ -10,7 +10,8 @@ use Rattle.link_receiver.specs.Arrivals.{on_octets}
 use Rattle.link_receiver.specs.declared.arrive.Arrive.{Arrive}
 use Rattle.link_receiver.specs.declared.arrive.Arrive.TheVariants.{Taken, Repeat}
 use Rattle.link_receiver.specs.Received.{received}
-use Rattle.link_receiver.specs.Records.{Record, payload_by}
+use Rattle.link_base.specs.Record.{Record}
+use Rattle.link_receiver.specs.Records.{payload_by}
 
 -- what was read brings this payload of this packet of the flow, and of no other
 pub record IsFor (p : Plan) (f : Flow) (h t : ℕ) (read : Result Fields NotRoe) (number : ℕ) (payload : List ℕ) : Type 0 where

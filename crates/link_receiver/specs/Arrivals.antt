@@ -11,7 +11,8 @@ use Rattle.roe_header.specs.declared.packet.NotRoe.{NotRoe}
 use Rattle.link_receiver.specs.declared.arrive.Arrive.{Arrive}
 use Rattle.link_receiver.specs.declared.arrive.Arrive.TheVariants.{Taken, Repeat, Outside, Size, Foreign}
 use Rattle.link_receiver.specs.declared.arrive.Foreign.TheVariants as cause
-use Rattle.link_receiver.specs.Records.{Record, is_candidate}
+use Rattle.link_base.specs.Record.{Record}
+use Rattle.link_receiver.specs.Records.{is_candidate}
 use Rattle.link_receiver.specs.Received.{received}
 
 -- the candidate of a sequence number at tick t

@@ -4,7 +4,8 @@ use Rattle.carrier_plan.specs.declared.plan.Flow.{Flow}
 use Rattle.carrier_plan.specs.declared.plan.Plan.{Plan}
 use Rattle.plan_checker.specs.Rules.{IsGood}
 use Rattle.plan_checker.specs.Run.{ticks_of_run}
-use Rattle.link_receiver.specs.Records.{Record, is_candidate}
+use Rattle.link_base.specs.Record.{Record}
+use Rattle.link_receiver.specs.Records.{is_candidate}
 use Rattle.link_receiver.specs.Output.{entries_at}
 use Rattle.link_receiver.specs.Received.{taken}
 use Rattle.link_receiver.specs.Simple.{IsSimple, is_simple}

@@ -14,7 +14,7 @@ use Rattle.plan_checker.specs.Run.{delay_of, samples_before, samples_due, ticks_
 use Rattle.plan_checker.specs.WordSize.{word_size}
 use Rattle.sample_bits.specs.declared.iq.RawIq.{RawIq}
 use Rattle.link_receiver.specs.declared.session.Entry.{Entry}
-use Rattle.link_receiver.specs.Records.{Record}
+use Rattle.link_base.specs.Record.{Record}
 use Rattle.link_receiver.specs.Received.{part_of_frame, is_missed}
 use Rattle.link_receiver.specs.Samples.{sample_of_bits}
 

@@ -6,7 +6,8 @@ use Rattle.carrier_plan.specs.declared.plan.Flow.{Flow}
 use Rattle.carrier_plan.specs.declared.plan.Plan.{Plan}
 use Rattle.plan_checker.specs.Flows.{octets_of_frame}
 use Rattle.plan_checker.specs.Packets.{run_packets}
-use Rattle.link_receiver.specs.Records.{Record, payload_for}
+use Rattle.link_base.specs.Record.{Record}
+use Rattle.link_receiver.specs.Records.{payload_for}
 
 -- the payload of packet i: that of the first record that brings one
 abbrev pub received : Plan → Flow → ℕ → List Record → ℕ → Option (List ℕ)

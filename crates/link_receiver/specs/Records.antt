@@ -1,17 +1,13 @@
--- The records of a capture, and the packets that they are taken for. This is the project's own.
+-- The packets that the records of a capture are taken for. This is the project's own.
 use Rattle.std.specs.Prelude.{◌≡◌, ◌==◌, ◌&&◌, nat_le, nat_lt, ℕ, ◌+◌, ◌*◌, Bool, IsTrue, List, length, Option, Some, None, Result, Ok, Err, if◌then◌else◌}
 use Rattle.carrier_plan.specs.declared.plan.Flow.{Flow}
 use Rattle.carrier_plan.specs.declared.plan.Plan.{Plan}
+use Rattle.link_base.specs.Record.{Record}
 use Rattle.plan_checker.specs.Flows.{octets_of_frame}
 use Rattle.plan_checker.specs.Packets.{subtype_of, sequence_of, run_packets}
-use Rattle.plan_checker.specs.Window.{last_frame}
+use Rattle.link_base.specs.Window.{last_frame}
 use Rattle.roe_header.specs.Layout.{Fields, parsed}
 use Rattle.roe_header.specs.declared.packet.NotRoe.{NotRoe}
-
--- octets that arrived at a tick
-pub record Record : Type 0 where
-  pub tick : ℕ
-  pub octets : List ℕ
 
 -- whether a packet is of the flow: its subtype is that of the mode, and its flow id the flow's
 abbrev pub is_of_flow : Plan → Flow → Fields → Bool

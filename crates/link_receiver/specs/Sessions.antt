@@ -8,7 +8,7 @@ use Rattle.plan_checker.specs.Packets.{run_packets}
 use Rattle.plan_checker.specs.Rules.{IsGood}
 use Rattle.plan_checker.specs.Run.{ticks_of_run}
 use Rattle.link_receiver.specs.declared.session.Entry.{Entry}
-use Rattle.link_receiver.specs.Records.{Record}
+use Rattle.link_base.specs.Record.{Record}
 use Rattle.link_receiver.specs.Received.{received}
 use Rattle.link_receiver.specs.Output.{entries_before}
 use Rattle.link_receiver.specs.Simple.{IsSimple}

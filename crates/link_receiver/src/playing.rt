@@ -2,8 +2,8 @@
 ghost use Rattle.std.specs.Prelude.{◌≡◌, ◌+◌, ◌*◌, ◌<◌, ◌≤◌, ◌^◌, ◌++◌, ◌∷◌, [], length, map, List};
 ghost use Rattle.std.specs.List.{range_with_len};
 ghost use Rattle.std.specs.Vec.{vec_len, vec_capacity};
-ghost use Rattle.link_receiver.specs.Block.{sample_in, block_entry};
-ghost use Rattle.link_receiver.specs.Records.{Record};
+ghost use Rattle.link_receiver.specs.Block.{sample_in, block_entry, start_of};
+ghost use Rattle.link_base.specs.Record.{Record};
 ghost use Rattle.link_receiver.specs.Sessions.{HoldsReceived, most_samples};
 ghost use Rattle.link_receiver.specs.Simple.{IsSimple};
 ghost use Rattle.link_receiver.specs.Output.{entries_of, entries_at};
@@ -23,14 +23,23 @@ pub struct Run<'a> {
     pub payloads: &'a [Option<Payload>],
 }
 
+// The first IQ bit of a container in one piece.
+fn start_of(carrier: &Carrier) -> u32
+    requires { length carrier.now.pieces ≡ 1 }
+    ensures { result ≡ start_of carrier.now }
+{
+    carrier.pieces.at(0).start
+}
+
 // Sample `r` of the block of a carrier that the payload carries.
 fn sample_in(payload: &Option<Payload>, carrier: &Carrier, r: u32) -> Option<RawIq>
     requires least { 4 ≤ carrier.now.m }
     requires most { carrier.now.m ≤ 20 }
-    requires within { carrier.now.start + 2 * carrier.now.m * (r + 1) ≤ 120 }
+    requires piece { length carrier.now.pieces ≡ 1 }
+    requires within { start_of carrier.now + 2 * carrier.now.m * (r + 1) ≤ 120 }
     ensures { result ≡ sample_in carrier.now payload.now r }
 {
-    let from = 8 + carrier.start + 2 * carrier.m * r;
+    let from = 8 + start_of(carrier) + 2 * carrier.m * r;
     match payload {
         Some(octets) => Some(sample_at(octets, from as usize, carrier.m)),
         None => None,
@@ -52,7 +61,8 @@ fn put_block(entries: &mut Vec<Entry>, carrier: &Carrier, payload: &Option<Paylo
     requires least { 4 ≤ carrier.now.m }
     requires most { carrier.now.m ≤ 20 }
     requires few { carrier.now.s ≤ most_samples }
-    requires within { carrier.now.start + 2 * carrier.now.m * carrier.now.s ≤ 120 }
+    requires piece { length carrier.now.pieces ≡ 1 }
+    requires within { start_of carrier.now + 2 * carrier.now.m * carrier.now.s ≤ 120 }
     requires number { first.number ≤ 2 ^ 60 }
     requires room { vec_len entries.old + most_samples ≤ vec_capacity entries.old }
     ensures items { entries.new.items ≡ entries.old.items ++ map (block_entry carrier.now payload.now first) (range_with_len 0 carrier.now.s) }

@@ -8,7 +8,7 @@ ghost use Rattle.plan_checker.specs.WordSize.{word_size};
 ghost use Rattle.link_receiver.specs.Arrivals.{arrives};
 ghost use Rattle.link_receiver.specs.Output.{entries_before};
 ghost use Rattle.link_receiver.specs.Received.{taken};
-ghost use Rattle.link_receiver.specs.Records.{Record};
+ghost use Rattle.link_base.specs.Record.{Record};
 ghost use Rattle.link_receiver.specs.Sessions.{SessionView, StandsFor};
 ghost use Rattle.link_receiver.specs.Simple.{IsSimple};
 

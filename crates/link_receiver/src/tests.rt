@@ -3,7 +3,9 @@ ghost use Rattle.std.specs.Prelude.{◌≡◌, ◌<◌, ◌≤◌, ◌^◌, leng
 ghost use Rattle.link_receiver.specs.Simple.{IsSimple};
 
 use crate::{Arrive, Counts, Entry, Foreign, Session, is_simple};
-use carrier_plan::{Carrier, CarrierList, Flow, FlowList, Method, Mode, NumberList, Plan};
+use carrier_plan::{
+    Carrier, CarrierList, Flow, FlowList, Method, Mode, NumberList, Piece, PieceList, Plan,
+};
 use link_base::NoMemory;
 use plan_checker::{Checked, check};
 use roe_header::NotRoe;
@@ -42,16 +44,35 @@ fn packets_of([first, second, third, fourth, fifth]: [u32; 5]) -> [Octets; 5] {
     ]
 }
 
-// A carrier by method 1 with one sample in each frame.
-fn carrier_of(m: u32, start: u32, size: u32) -> Carrier {
-    Carrier {
+// A carrier with one sample in each block, in one piece.
+#[derive(Clone, Copy)]
+struct Outline {
+    method: Method,
+    k: u32,
+    m: u32,
+    piece: Piece,
+}
+
+// By method 1, with a block of one frame.
+fn outline_of(m: u32, start: u32, size: u32) -> Outline {
+    Outline {
         method: Method::Sample,
-        s: 1,
         k: 1,
         m,
-        start,
-        size,
+        piece: Piece { start, size },
     }
+}
+
+fn carrier_of(alloc: Global, outline: Outline) -> Result<Carrier, NoMemory> {
+    let mut pieces = PieceList::new(alloc);
+    pieces.push(outline.piece)?;
+    Ok(Carrier {
+        method: outline.method,
+        s: 1,
+        k: outline.k,
+        m: outline.m,
+        pieces,
+    })
 }
 
 // A flow of the first `carriers` carriers, whose packets hold one frame and arrive 0 to 2 ticks after it.
@@ -76,10 +97,10 @@ fn flow_of(alloc: Global, carriers: u32, p: u32, q: u32) -> Result<Flow, NoMemor
 }
 
 // A plan on option 1 in mode `bytes`, which plays each frame two ticks after it.
-fn plan_with(alloc: Global, carriers: &[Carrier], flow: Flow) -> Result<Plan, NoMemory> {
+fn plan_with(alloc: Global, carriers: &[Outline], flow: Flow) -> Result<Plan, NoMemory> {
     let mut list = CarrierList::new(alloc);
     for carrier in carriers {
-        list.push(*carrier)?;
+        list.push(carrier_of(alloc, *carrier)?)?;
     }
     let mut flows = FlowList::new(alloc);
     flows.push(flow)?;
@@ -94,7 +115,7 @@ fn plan_with(alloc: Global, carriers: &[Carrier], flow: Flow) -> Result<Plan, No
 
 // The plan of one carrier of 8 bits.
 fn plan_of(alloc: Global, p: u32, q: u32) -> Result<Plan, NoMemory> {
-    plan_with(alloc, &[carrier_of(8, 0, 16)], flow_of(alloc, 1, p, q)?)
+    plan_with(alloc, &[outline_of(8, 0, 16)], flow_of(alloc, 1, p, q)?)
 }
 
 // Packet 0 with two other octets from a place on.
@@ -322,7 +343,7 @@ fn a_packet_is_taken_once_its_payload_is_whole(rt: HostRuntime) -> Result<(), Fa
 #[test]
 fn samples_of_the_least_and_the_greatest_width(rt: HostRuntime) -> Result<(), Fail> {
     let alloc = rt.alloc();
-    let carriers = [carrier_of(20, 1, 40), carrier_of(4, 43, 8)];
+    let carriers = [outline_of(20, 1, 40), outline_of(4, 43, 8)];
     let plan = checked(&rt, plan_with(alloc, &carriers, flow_of(alloc, 2, 4, 4)?)?);
     let first = packet_of(1, [0, 0xAA, 0xAA, 0xAA, 0xAA, 0x2A, 0x51, 0x03]);
     let second = packet_of(2, [0, 0x54, 0x55, 0x55, 0x55, 0xD5, 0xA8, 0x04]);
@@ -349,7 +370,8 @@ fn samples_of_the_least_and_the_greatest_width(rt: HostRuntime) -> Result<(), Fa
     Ok(())
 }
 
-// Each of the others differs in one thing: the option, the mode, a method, a block, the frames of a packet.
+// Each of the others differs in one thing: the option, the mode, a method, a block, the pieces of a container, the frames
+// of a packet.
 #[test]
 fn the_plans_that_are_played(rt: HostRuntime) -> Result<(), Fail> {
     let alloc = rt.alloc();
@@ -359,26 +381,34 @@ fn the_plans_that_are_played(rt: HostRuntime) -> Result<(), Fail> {
     other_option.option = 2;
     let mut other_mode = plan_of(alloc, 4, 4)?;
     other_mode.mode = Mode::Aware;
-    let mut compatible = carrier_of(8, 16, 16);
+    let mut compatible = outline_of(8, 16, 16);
     compatible.method = Method::Compatible;
-    let mut in_two_frames = carrier_of(15, 16, 16);
+    let mut in_two_frames = outline_of(15, 16, 16);
     in_two_frames.k = 2;
+    let mut in_two_pieces = plan_of(alloc, 4, 4)?;
+    let mut carrier = carrier_of(alloc, outline_of(8, 0, 10))?;
+    carrier.pieces.push(Piece {
+        start: 100,
+        size: 6,
+    })?;
+    in_two_pieces.carriers.push(carrier)?;
     let mut frames = flow_of(alloc, 1, 4, 4)?;
     frames.frames = 2;
     let others = [
         other_option,
         other_mode,
+        in_two_pieces,
         plan_with(
             alloc,
-            &[carrier_of(8, 0, 16), compatible],
+            &[outline_of(8, 0, 16), compatible],
             flow_of(alloc, 2, 4, 4)?,
         )?,
         plan_with(
             alloc,
-            &[carrier_of(8, 0, 16), in_two_frames],
+            &[outline_of(8, 0, 16), in_two_frames],
             flow_of(alloc, 2, 4, 4)?,
         )?,
-        plan_with(alloc, &[carrier_of(8, 0, 16)], frames)?,
+        plan_with(alloc, &[outline_of(8, 0, 16)], frames)?,
     ];
     for other in others.as_slice() {
         assert_eq!(rt; is_simple(other), false);

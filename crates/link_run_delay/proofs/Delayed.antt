@@ -7,10 +7,11 @@ use Rattle.carrier_plan.specs.declared.plan.Flow.{Flow}
 use Rattle.carrier_plan.specs.declared.plan.Plan.{Plan}
 use Rattle.link_receiver.specs.declared.session.Entry.{Entry}
 use Rattle.link_receiver.specs.Output.{all_entries, entry_of, value_of}
-use Rattle.link_receiver.specs.Records.{Record}
+use Rattle.link_base.specs.Record.{Record}
 use Rattle.link_receiver.specs.Simple.{IsSimple}
 use Rattle.link_receiver.proofs.SimplePlans.{IsTheFlow-contained, delay_of-simple, longest_block-simple, tick_of-due}
 use Rattle.link_sender.specs.Stream.{IsStream, Stream}
+use Rattle.plan_checker.specs.Laws.{EachBitHasOneSample}
 use Rattle.plan_checker.specs.Rules.{IsGood}
 use Rattle.plan_checker.specs.Run.{IsDue, delay_of, ticks_of_run}
 use Rattle.link_run_delay.specs.Delay.{AreFresh, IsPlain, IsPlayed, IsValue, SamplesAreDelayed, tells_of}
@@ -63,9 +64,9 @@ module _ (p : Plan) (h : ℕ) (records : List Record) (good : IsGood p) (simple 
       (λ d. count_by-entries_of_none test p h records u d (λ a i _ late _ is_due. others u d (λ same _. other same) a i late is_due)))
 
   -- the entry at its delay has the right value
-  module _ (σ : Stream) (plain : IsPlain p) (stream : IsStream p h σ) (fresh : AreFresh p h σ records) where
+  module _ (law : EachBitHasOneSample) (σ : Stream) (plain : IsPlain p) (stream : IsStream p h σ) (fresh : AreFresh p h σ records) where
     value_here : (f : Flow) → Contains p.flows f → IsValue p σ f records c carrier j (value_of p h records c carrier j)
-    value_here f listed = value_of-is p h σ records good simple plain stream fresh f (IsTheFlow-contained p f good simple listed) c carrier read n j lt due
+    value_here f listed = value_of-is law p h σ records good simple plain stream fresh f (IsTheFlow-contained p f good simple listed) c carrier read n j lt due
 
     value_of_entry : (f : Flow) (b : Carrier) (d : ℕ) (a : Carrier) (i : ℕ) → Contains p.flows f → slice_get p.carriers c ≡ Some b → slice_get p.carriers d ≡ Some a → d ≡ c → i ≡ j
         → IsValue p σ f records c b j (value_of p h records d a i)
@@ -89,10 +90,10 @@ module _ (p : Plan) (h : ℕ) (records : List Record) (good : IsGood p) (simple 
           value = λ b f is_b listed _. value_of_entry f b d a i listed is_b is_a same.0 same.1;
         })
 
-pub SamplesAreDelayed-holds : SamplesAreDelayed
-SamplesAreDelayed-holds p h σ records good simple plain stream _ fresh c n j within lt due =
+pub SamplesAreDelayed-holds : EachBitHasOneSample → SamplesAreDelayed
+SamplesAreDelayed-holds law p h σ records good simple plain stream _ fresh c n j within lt due =
     let found = carrier_at p.carriers c within in
     record {
       once = once p h records good simple c found.0 found.1 n j within lt due;
-      played = played p h records good simple c found.0 found.1 n j within lt due σ plain stream fresh;
+      played = played p h records good simple c found.0 found.1 n j within lt due law σ plain stream fresh;
     }

@@ -10,7 +10,7 @@ use Rattle.carrier_plan.specs.declared.plan.Carrier.{Carrier}
 use Rattle.carrier_plan.specs.declared.plan.Plan.{Plan}
 use Rattle.link_receiver.specs.declared.session.Entry.{Entry}
 use Rattle.link_receiver.specs.Output.{all_entries, entries_at, entries_by, entries_handed_in, entries_of, entry_of}
-use Rattle.link_receiver.specs.Records.{Record}
+use Rattle.link_base.specs.Record.{Record}
 use Rattle.plan_checker.specs.Run.{IsDue, delay_of, samples_before, samples_due, ticks_of_run}
 
 -- ---- lists over ranges of numbers

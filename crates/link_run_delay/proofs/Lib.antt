@@ -4,3 +4,6 @@ pub mod SampleValues
 pub mod Entries
 pub mod Delayed
 pub mod PlainPlans
+pub mod OctetsOfBits
+pub mod CarriedBits
+pub mod Existing

@@ -114,17 +114,23 @@ All-flows_of None flows h = subst (All HasAddresses) (same_ok [] flows h) (All-n
 All-flows_of (Some (array elements)) flows h = All-all_from HasAddresses flow_of AreAddresses-flow_of 0 elements flows h
 All-flows_of (Some _) flows h = cc
 
+-- the flows of a plan are those that are read last
+flows_ok : {V : Type 0} (line_read : Result (V × ℕ × Mode × ℕ) PlanText) (carriers_read : V → Result (List Carrier) PlanText) (flows_read : Result (List Flow) PlanText) (p : Plan)
+    → (line_read >>= (λ line. carriers_read line.0 >>= (λ carriers. flows_read >>= (λ flows. Ok (record { option = line.1; mode = line.2; playout = line.3; carriers = carriers; flows = flows }))))) ≡ Ok p
+    → flows_read ≡ Ok p.flows
+flows_ok {V} line_read carriers_read flows_read p h =
+    let made : V × ℕ × Mode × ℕ → List Carrier → List Flow → Plan = λ line carriers flows. record { option = line.1; mode = line.2; playout = line.3; carriers = carriers; flows = flows } in
+    let line = bind_ok line_read (λ line. carriers_read line.0 >>= (λ carriers. flows_read >>= (λ flows. Ok (made line carriers flows)))) p h in
+    let carriers = bind_ok (carriers_read line.0.0) (λ carriers. flows_read >>= (λ flows. Ok (made line.0 carriers flows))) p line.2 in
+    let flows = bind_ok flows_read (λ flows. Ok (made line.0 carriers.0 flows)) p carriers.2 in
+    let same = same_ok (made line.0 carriers.0 flows.0) p flows.2 in
+    subst (λ (q : Plan). flows_read ≡ Ok q.flows) same flows.1
+
 All-plan_in : (keys : Members) (p : Plan) → plan_in keys ≡ Ok p → All HasAddresses p.flows
 unfolding plan_in
 All-plan_in keys p h =
-    let carriers_read = cond (has_extra top_fields keys) (Err (Extra part.Top)) (carriers_of (get_member (key_of field.Carrier) keys)) in
-    let flows_read = flows_of (get_member (key_of field.Flow) keys) in
-    let made : ℕ × Mode × ℕ → List Carrier → List Flow → Plan = λ line carriers flows. record { option = line.0; mode = line.1; playout = line.2; carriers = carriers; flows = flows } in
-    let line = bind_ok (line_in keys) (λ line. carriers_read >>= (λ carriers. flows_read >>= (λ flows. Ok (made line carriers flows)))) p h in
-    let carriers = bind_ok carriers_read (λ carriers. flows_read >>= (λ flows. Ok (made line.0 carriers flows))) p line.2 in
-    let flows = bind_ok flows_read (λ flows. Ok (made line.0 carriers.0 flows)) p carriers.2 in
-    let same = same_ok (made line.0 carriers.0 flows.0) p flows.2 in
-    subst (λ (q : Plan). All HasAddresses q.flows) {x = made line.0 carriers.0 flows.0} same (All-flows_of (get_member (key_of field.Flow) keys) flows.0 flows.1)
+    All-flows_of (get_member (key_of field.Flow) keys) p.flows
+    (flows_ok (line_in keys) (λ version. cond (has_extra top_fields keys) (Err (Extra part.Top)) (carriers_of version (get_member (key_of field.Carrier) keys))) (flows_of (get_member (key_of field.Flow) keys)) p h)
 
 All-plan_of_document : (keys : Option Members) (p : Plan) → plan_of_document keys ≡ Ok p → All HasAddresses p.flows
 All-plan_of_document None p h = cc

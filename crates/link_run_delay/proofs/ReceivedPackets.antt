@@ -10,7 +10,8 @@ use Rattle.carrier_plan.specs.declared.plan.Flow.{Flow}
 use Rattle.carrier_plan.specs.declared.plan.Mode.{Mode}
 use Rattle.carrier_plan.specs.declared.plan.Mode.TheVariants.{Tunnel, Bytes, Aware}
 use Rattle.carrier_plan.specs.declared.plan.Plan.{Plan}
-use Rattle.link_receiver.specs.Records.{Record, fits, is_candidate, is_candidate_of, payload_by, payload_for}
+use Rattle.link_base.specs.Record.{Record}
+use Rattle.link_receiver.specs.Records.{fits, is_candidate, is_candidate_of, payload_by, payload_for}
 use Rattle.link_receiver.specs.Received.{received}
 use Rattle.link_sender.specs.Packets.{IsPacket, IsPayload, packet_fields}
 use Rattle.link_sender.specs.Stream.{Stream}
@@ -19,7 +20,7 @@ use Rattle.plan_checker.specs.Packets.{run_packets, sequence_of, subtype_of}
 use Rattle.plan_checker.specs.Rules.{IsGood}
 use Rattle.plan_checker.specs.Rules.Rule.{PayloadSize, SequenceNumbers}
 use Rattle.plan_checker.specs.Timing.{HasSequenceNumbers}
-use Rattle.plan_checker.specs.Window.{IsOpen, last_frame}
+use Rattle.link_base.specs.Window.{IsOpen, last_frame}
 use Rattle.roe_header.specs.Layout.{Fields, IsWritable, is_subtype, packet_octets, parsed}
 use Rattle.roe_header.specs.declared.packet.NotRoe.{NotRoe}
 use Rattle.roe_header.proofs.RoundTrip.{read_back}
@@ -61,13 +62,13 @@ is_subtype-of Tunnel = refl
 is_subtype-of Bytes = refl
 is_subtype-of Aware = refl
 
-sequence_of-lt : (f : Flow) (i : ℕ) → HasSequenceNumbers f → sequence_of f i < 2 ^ 32
+pub sequence_of-lt : (f : Flow) (i : ℕ) → HasSequenceNumbers f → sequence_of f i < 2 ^ 32
 sequence_of-lt f i numbers =
     let low = mod_below i f.p numbers.some_p in
     let high = mod_below (i / f.p) f.q numbers.some_q in
     omega (arith, numbers.small_p, numbers.small_q)
 
-at_contained : {A : Type 0} (P : A → Type 0) (xs : List A) (x : A) → ((i : ℕ) → i < length xs → HoldsAt P xs i) → Contains xs x → P x
+pub at_contained : {A : Type 0} (P : A → Type 0) (xs : List A) (x : A) → ((i : ℕ) → i < length xs → HoldsAt P xs i) → Contains xs x → P x
 at_contained P xs x each h = subst P h.2 (each h.0 h.1 x)
 
 module _ (p : Plan) (h : ℕ) (σ : Stream) (f : Flow) (good : IsGood p) (plain : IsPlain p) (listed : Contains p.flows f) where

@@ -14,7 +14,7 @@ use Rattle.carrier_plan.specs.declared.plan.Flow.{Flow}
 use Rattle.carrier_plan.specs.declared.plan.Plan.{Plan}
 use Rattle.link_receiver.specs.Output.{bit_at_place, bit_if_received, bit_of_part, is_marked, value_in, value_of}
 use Rattle.link_receiver.specs.Received.{is_missed, part_of_frame, received}
-use Rattle.link_receiver.specs.Records.{Record}
+use Rattle.link_base.specs.Record.{Record}
 use Rattle.link_receiver.specs.Samples.{sample_of_bits}
 use Rattle.link_receiver.specs.Simple.{IsSimple}
 use Rattle.link_receiver.proofs.SampleOfBits.{sample_of_bits-unique}
@@ -24,6 +24,7 @@ use Rattle.link_sender.specs.Packets.{IsPart}
 use Rattle.link_sender.specs.Stream.{IsStream, Stream, sample_at}
 use Rattle.plan_checker.specs.Flows.{octets_of_frame}
 use Rattle.plan_checker.specs.Packets.{run_packets}
+use Rattle.plan_checker.specs.Laws.{EachBitHasOneSample}
 use Rattle.plan_checker.specs.Place.{place_of}
 use Rattle.plan_checker.specs.Rules.{IsGood}
 use Rattle.plan_checker.specs.Run.{IsDue}
@@ -108,14 +109,14 @@ bit_of_part-bytes : (p : Plan) (part : List ℕ) (x : ℕ) → IsSimple p → bi
 bit_of_part-bytes p part x simple = ap (λ mode. bit_of_part mode p part x) simple.mode
 
 -- where one bit alone stands at a place, the frame has that bit there
-bit_in_frame : (p : Plan) (σ : Stream) (n x c j b : ℕ) (octets : List ℕ) → IsGood p → IsSimple p → IsFrame p σ n octets → x < iq_bits p.option → StandsAt p n x c j b
+bit_in_frame : EachBitHasOneSample → (p : Plan) (σ : Stream) (n x c j b : ℕ) (octets : List ℕ) → IsGood p → IsFrame p σ n octets → x < iq_bits p.option → StandsAt p n x c j b
     → iq_bit (word_size p.option) octets x ≡ sample_bit (sample_at σ c j) b
-bit_in_frame p σ n x c j b octets good simple frame within stands =
+bit_in_frame law p σ n x c j b octets good frame within stands =
     let here = iq_bit (word_size p.option) octets x in
     let there = sample_bit (sample_at σ c j) b in
     let carried : CarriesOne p σ n x → there ≡ 1 =
     λ one.
-    let same = one_bit p n x one.carrier one.number one.place c j b good simple one.stands stands in
+    let same = one_bit law p n x one.carrier one.number one.place c j b good one.stands stands in
     let P : ℕ → ℕ → ℕ → Type 0 = λ d i a. sample_bit (sample_at σ d i) a ≡ 1 in
     subst (P c j) same.place (subst (λ i. P c i one.place) same.number (subst (λ d. P d one.number one.place) same.carrier one.one)) in
     same_bits here there (omega (arith, bit_at-lt)) (sample_bit-le (sample_at σ c j) b)
@@ -124,7 +125,7 @@ bit_in_frame p σ n x c j b octets good simple frame within stands =
 
 -- ---- the value
 
-module _ (p : Plan) (h : ℕ) (σ : Stream) (records : List Record) (good : IsGood p) (simple : IsSimple p) (plain : IsPlain p) (stream : IsStream p h σ) (fresh : AreFresh p h σ records) (f : Flow) (the : IsTheFlow p f) (c : ℕ) (carrier : Carrier) (read : slice_get p.carriers c ≡ Some carrier) (n j : ℕ) (lt : n < h) (due : IsDue p c n j) where
+module _ (law : EachBitHasOneSample) (p : Plan) (h : ℕ) (σ : Stream) (records : List Record) (good : IsGood p) (simple : IsSimple p) (plain : IsPlain p) (stream : IsStream p h σ) (fresh : AreFresh p h σ records) (f : Flow) (the : IsTheFlow p f) (c : ℕ) (carrier : Carrier) (read : slice_get p.carriers c ≡ Some carrier) (n j : ℕ) (lt : n < h) (due : IsDue p c n j) where
   some_frames : 1 ≤ f.frames
   some_frames = omega (arith, the.frames)
 
@@ -140,7 +141,7 @@ module _ (p : Plan) (h : ℕ) (σ : Stream) (records : List Record) (good : IsGo
       let stands : StandsAt p frame x c j b = record { carrier = carrier; at = read; within = within; frame = refl; bit = refl } in
       let whole : IsFrame p σ frame kept.part = subst (λ mode. IsPart mode p σ frame kept.part) simple.mode kept.carries in
       let small : x < iq_bits p.option = subst (λ k. x < k) (sym (iq_bits-simple p simple)) (bit_small carrier a j b within) in
-      ap (bit_if_received p x) kept.received ∙ bit_of_part-bytes p kept.part x simple ∙ bit_in_frame p σ frame x c j b kept.part good simple whole small stands
+      ap (bit_if_received p x) kept.received ∙ bit_of_part-bytes p kept.part x simple ∙ bit_in_frame law p σ frame x c j b kept.part good whole small stands
 
   -- the sample is one of the stream, of the carrier's width
   sample_fits : IsWithin carrier.m (sample_at σ c j)

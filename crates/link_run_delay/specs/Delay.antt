@@ -7,7 +7,8 @@ use Rattle.carrier_plan.specs.declared.plan.Plan.{Plan}
 use Rattle.carrier_plan.specs.PlanOf.{plan_of}
 use Rattle.link_receiver.specs.declared.session.Entry.{Entry}
 use Rattle.link_receiver.specs.Output.{all_entries}
-use Rattle.link_receiver.specs.Records.{Record, IsOfFlow, payload_for}
+use Rattle.link_base.specs.Record.{Record}
+use Rattle.link_receiver.specs.Records.{IsOfFlow, payload_for}
 use Rattle.link_receiver.specs.Simple.{IsSimple}
 use Rattle.link_sender.specs.Packets.{IsPacket}
 use Rattle.link_sender.specs.Stream.{Stream, IsStream, sample_at}
@@ -16,7 +17,7 @@ use Rattle.plan_checker.specs.Packets.{run_packets}
 use Rattle.plan_checker.specs.Place.{place_of}
 use Rattle.plan_checker.specs.Rules.{IsGood}
 use Rattle.plan_checker.specs.Run.{IsDue, delay_of}
-use Rattle.plan_checker.specs.Window.{IsOpen}
+use Rattle.link_base.specs.Window.{IsOpen}
 use Rattle.sample_bits.specs.declared.iq.RawIq.{RawIq}
 
 -- the octets are a packet of the stream in this flow

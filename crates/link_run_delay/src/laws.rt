@@ -1,12 +1,20 @@
 // Laws over all streams and captures.
 ghost use Rattle.link_run_delay.specs.Delay.{ReadPlansArePlain, SamplesAreDelayed};
+ghost use Rattle.link_run_delay.specs.Existing.{PacketsExist};
 
 /// Each sample of a stream leaves unchanged after its delay, or is marked, whatever packets of the stream arrive, and when.
 pub fn samples_are_delayed()
     ensures { SamplesAreDelayed }
-{}
+{
+    plan_checker::bits_have_one_sample();
+}
 
 /// A plan that is read from text has addresses of six octets.
 pub fn read_plans_are_plain()
     ensures { ReadPlansArePlain }
+{}
+
+/// There are octets of each packet of a stream, whatever the stream, of every plan in mode `bytes` that meets the rules.
+pub fn packets_exist()
+    ensures { PacketsExist }
 {}

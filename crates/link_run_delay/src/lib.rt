@@ -1,7 +1,7 @@
 //! That each sample of a stream leaves unchanged after its delay, or is marked where packets that carry a bit of it are
-//! lost: what that means, and the laws that say so.
+//! lost: what that means, and the laws that say so. That each packet of a stream has octets is a law too.
 #![tactic(auto)]
 
 mod laws;
 
-pub use laws::{read_plans_are_plain, samples_are_delayed};
+pub use laws::{packets_exist, read_plans_are_plain, samples_are_delayed};

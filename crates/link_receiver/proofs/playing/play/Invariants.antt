@@ -2,7 +2,7 @@ use Rattle.std.proofs.Common.{◌≡◌, ◌*◌, ◌≤◌, List}
 use Rattle.std.specs.List.{flat_map, range_with_len}
 use Rattle.std.specs.Vec.{vec_len, vec_capacity}
 use Rattle.link_receiver.specs.Output.{entries_of}
-use Rattle.link_receiver.specs.Records.{Record}
+use Rattle.link_base.specs.Record.{Record}
 use Rattle.link_receiver.specs.Sessions.{HoldsReceived, most_samples}
 use Rattle.link_receiver.proofs.playing.play.Given as goal
 

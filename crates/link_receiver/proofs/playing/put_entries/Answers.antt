@@ -37,7 +37,10 @@ put_block-requires-clause-few c = let reads = is_read c.plan.result.now c.args.r
 pub put_block-requires-clause-within : goal.put_block-requires-clause-within
 put_block-requires-clause-within c =
     let reads = is_read c.plan.result.now c.args.run.checked.now c.args.c c.at-carrier.result.now c.plan.ensures.same c.plan.ensures.good c.requires.simple c.at-carrier.ensures in
-    omega (arith, reads.is_simple.size, reads.is_simple.within)
+    reads.is_simple.within
+
+pub put_block-requires-clause-piece : goal.put_block-requires-clause-piece
+put_block-requires-clause-piece c = let reads = is_read c.plan.result.now c.args.run.checked.now c.args.c c.at-carrier.result.now c.plan.ensures.same c.plan.ensures.good c.requires.simple c.at-carrier.ensures in reads.is_simple.piece
 
 pub put_block-requires-clause-number : goal.put_block-requires-clause-number
 put_block-requires-clause-number c =

@@ -13,7 +13,9 @@ invariant_of-result g c =
       plan = c.in_ok-copy.ensures;
       frames = refl;
       tick = refl;
-      payloads = c.in_ok-payloads.ensures ∙ ap (λ n. replicate n None) c.packets.ensures;
+      packets = c.packets.result;
+      counted = c.packets.ensures;
+      payloads = c.in_ok-payloads.ensures;
       taken = refl;
       entries = c.in_ok-with_capacity.ensures.items;
     } in
@@ -29,7 +31,9 @@ returns-clause-stands g c =
       plan = c.in_ok-copy.ensures;
       frames = refl;
       tick = refl;
-      payloads = c.in_ok-payloads.ensures ∙ ap (λ n. replicate n None) c.packets.ensures;
+      packets = c.packets.result;
+      counted = c.packets.ensures;
+      payloads = c.in_ok-payloads.ensures;
       taken = refl;
       entries = c.in_ok-with_capacity.ensures.items;
     } in

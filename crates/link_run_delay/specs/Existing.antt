@@ -1,0 +1,22 @@
+-- That there are octets of each packet of a stream. This is the project's own.
+use Rattle.std.specs.Prelude.{◌≡◌, ◌<◌, ℕ, List, All, Contains}
+use Rattle.carrier_plan.specs.declared.plan.Flow.{Flow}
+use Rattle.carrier_plan.specs.declared.plan.Mode.TheVariants.{Bytes}
+use Rattle.carrier_plan.specs.declared.plan.Plan.{Plan}
+use Rattle.link_sender.specs.Packets.{IsPacket}
+use Rattle.link_sender.specs.Stream.{Stream}
+use Rattle.plan_checker.specs.Rules.{IsGood}
+
+-- the numbers are octets
+abbrev pub AreOctets : List ℕ → Type 0
+AreOctets numbers = All (λ n. n < 256) numbers
+
+-- There is packet i of the flow, and it consists of octets where the flow's addresses do.
+pub record HasPacket (p : Plan) (σ : Stream) (f : Flow) (i : ℕ) : Type 0 where
+  pub octets : List ℕ
+  pub packet : IsPacket p σ f i octets
+  pub are_octets : AreOctets f.dst → AreOctets f.src → AreOctets octets
+
+-- of a plan in mode `bytes` that meets the rules, whatever the stream
+abbrev pub PacketsExist : Type 0
+PacketsExist = (p : Plan) (σ : Stream) (f : Flow) (i : ℕ) → IsGood p → p.mode ≡ Bytes → Contains p.flows f → HasPacket p σ f i
