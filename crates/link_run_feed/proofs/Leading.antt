@@ -1,0 +1,179 @@
+-- A feed that is read is a header and good lines.
+use Rattle.std.proofs.Common.{◌≡◌, ◌≢◌, ◌+◌, inl, inr, ◌++◌, ◌∷◌, [], ℕ, List, length, refl, sym, ap, subst, ◌∙◌, append_assoc, append-nil, Bool, true, false, Option, Some, None, Result, Ok, Err}
+use Rattle.std.specs.Prelude.{nat_lt, codes, bytes_eq, if◌then◌else◌}
+use Rattle.std.proofs.lemmas.Slice.Eq.{bytes_eq-Decides}
+use Rattle.link_text.specs.Lines.{lines_of, rest_of}
+use Rattle.link_run_feed.specs.declared.reason.Reason.{Reason}
+use Rattle.link_run_feed.specs.declared.reason.Reason.TheVariants as reason
+use Rattle.link_run_feed.specs.declared.status.Status.TheVariants.{Done}
+use Rattle.link_run_feed.specs.Feed.{At, start, in_lines, ended, is_bad, Step, Read, LineForm, FeedForm, bad, by_header, by_line, by_end, line_step, read_more, read_items, step_at, answer_at, answer_of, read_on, answer_on, begun, settled, feed_answer}
+use Rattle.link_run_feed.specs.Leads.{LeadTo, IsSettledBy, IsDone}
+use Rattle.link_run_feed.proofs.Folds.{items_bad}
+
+-- what a line of the form does, by what it is
+data LineIs {S : Type 0} (form : LineForm S) (s : S) (line : List ℕ) (step : Step S) : Type 0 where
+  line_good : (next : S) (settled : List ℕ) → form.line s line ≡ Ok (next, settled) → step ≡ record { at = in_lines next; settled = settled } → LineIs form s line step
+  line_last : line ≡ codes "end" → form.may_end s ≡ true → step ≡ record { at = ended s; settled = [] } → LineIs form s line step
+  line_none : (why : Reason) → step ≡ bad why → LineIs form s line step
+
+module _ {S : Type 0} (form : LineForm S) (s : S) (line : List ℕ) where
+  by_result : (result : Result (S × List ℕ) Reason) → form.line s line ≡ result → LineIs form s line (by_line result)
+  by_result (Ok given) is = line_good given.0 given.1 is refl
+  by_result (Err why) is = line_none why refl
+
+  by_may : (may : Bool) → line ≡ codes "end" → form.may_end s ≡ may → LineIs form s line (by_end s may)
+  by_may true same is = line_last same is refl
+  by_may false same is = line_none reason.Count refl
+
+  by_test : (test : Bool) → bytes_eq line (codes "end") ≡ test → LineIs form s line (if test then by_end s (form.may_end s) else by_line (form.line s line))
+  by_test true is = by_may (form.may_end s) ((bytes_eq-Decides line (codes "end")).0 is) refl
+  by_test false is = by_result (form.line s line) refl
+
+  by_length : (long : Bool) → LineIs form s line (if long then bad reason.Long else line_step form s line)
+  by_length true = line_none reason.Long refl
+  by_length false = by_test (bytes_eq line (codes "end")) refl
+
+-- where lines lead
+abbrev IsTail : {S : Type 0} → LineForm S → At S → List (List ℕ) → S → Type 0
+IsTail form start following last = ⊥
+IsTail form (in_lines s) following last = following ≡ []
+IsTail form (ended s) following last = (s ≡ last) × (following ≡ codes "end" ∷ []) × (form.may_end last ≡ true)
+IsTail form (is_bad why) following last = Unit {0}
+
+record Leads {S : Type 0} (form : LineForm S) (s : S) (lines : List (List ℕ)) (text : List ℕ) (r : Read S) : Type 0 where
+  pub good_lines : List (List ℕ)
+  pub following : List (List ℕ)
+  pub final : S
+  pub settled_text : List ℕ
+  pub split : lines ≡ good_lines ++ following
+  pub leads : LeadTo form s good_lines final settled_text
+  pub all : r.text ≡ text ++ settled_text
+  pub tail : IsTail form r.at following final
+
+module _ {S : Type 0} (form : FeedForm S) where
+  after_end : (s : S) (number : ℕ) (text line : List ℕ) (lines : List (List ℕ)) → line ≡ codes "end" → form.lines.may_end s ≡ true
+      → Leads form.lines s (line ∷ lines) text (read_items (step_at form) (record { at = ended s; number = number; text = text ++ [] }) lines)
+  after_end s number text line [] same may =
+      record { good_lines = []; following = line ∷ []; final = s; settled_text = []; split = refl; leads = (refl, refl); all = refl; tail = (refl, ap (λ (one : List ℕ). one ∷ []) same, may) }
+  after_end s number text line (next ∷ lines) same may =
+      subst (Leads form.lines s (line ∷ next ∷ lines) text) (sym (items_bad form reason.After (number + 1) ((text ++ []) ++ []) lines))
+      (record { good_lines = []; following = line ∷ next ∷ lines; final = s; settled_text = []; split = refl; leads = (refl, refl); all = append-nil (text ++ []); tail = tt })
+
+  leads_by : (lines : List (List ℕ)) (s : S) (number : ℕ) (text : List ℕ) → Leads form.lines s lines text (read_items (step_at form) (record { at = in_lines s; number = number; text = text }) lines)
+  leads_by [] s number text = record { good_lines = []; following = []; final = s; settled_text = []; split = refl; leads = (refl, refl); all = sym (append-nil text); tail = refl }
+  leads_by (line ∷ lines) s number text = by_case (λ next settled. leads_by lines next (number + 1) (text ++ settled)) (by_length form.lines s line (nat_lt 4096 (length line)))
+    where
+      more : Step S → Read S
+      more step = read_items (step_at form) (read_more (in_lines s) number text step) lines
+
+      by_case : ((next : S) (text' : List ℕ) → Leads form.lines next lines (text ++ text') (read_items (step_at form) (record { at = in_lines next; number = number + 1; text = text ++ text' }) lines))
+          → LineIs form.lines s line (step_at form (in_lines s) line) → Leads form.lines s (line ∷ lines) text (more (step_at form (in_lines s) line))
+      by_case later (line_good next text' is step) =
+          let rest = later next text' in
+          subst (Leads form.lines s (line ∷ lines) text) (sym (ap more step))
+          (record {
+            good_lines = line ∷ rest.good_lines;
+            following = rest.following;
+            final = rest.final;
+            settled_text = text' ++ rest.settled_text;
+            split = ap (λ xs. line ∷ xs) rest.split;
+            leads = (next, text', rest.settled_text, is, rest.leads, refl);
+            all = rest.all ∙ append_assoc text text' rest.settled_text;
+            tail = rest.tail;
+          })
+      by_case later (line_last same may step) = subst (Leads form.lines s (line ∷ lines) text) (sym (ap more step)) (after_end s (number + 1) text line lines same may)
+      by_case later (line_none why step) =
+          subst (Leads form.lines s (line ∷ lines) text) (sym (ap more step ∙ items_bad form why (number + 1) (text ++ []) lines))
+          (record { good_lines = []; following = line ∷ lines; final = s; settled_text = []; split = refl; leads = (refl, refl); all = refl; tail = tt })
+
+-- what a header does, by what it is
+data HeaderIs {S : Type 0} (form : FeedForm S) (line : List ℕ) (step : Step S) : Type 0 where
+  header_opens : (first : S) (front : List ℕ) → form.header line ≡ Some (first, front) → step ≡ record { at = in_lines first; settled = front } → HeaderIs form line step
+  header_none : (why : Reason) → step ≡ bad why → HeaderIs form line step
+
+module _ {S : Type 0} (form : FeedForm S) (line : List ℕ) where
+  by_given : (given : Option (S × List ℕ)) → form.header line ≡ given → HeaderIs form line (by_header given)
+  by_given None is = header_none reason.Header refl
+  by_given (Some given) is = header_opens given.0 given.1 is refl
+
+  by_first : (long : Bool) → HeaderIs form line (if long then bad reason.Long else by_header (form.header line))
+  by_first true = header_none reason.Long refl
+  by_first false = by_given (form.header line) refl
+
+-- a feed that is read so far
+data IsBegunBy {S : Type 0} (form : FeedForm S) (lines : List (List ℕ)) (r : Read S) : Type 0 where
+  by_none : r.text ≡ [] → ((s : S) → r.at ≢ ended s) → IsBegunBy form lines r
+  by_lines : (header : List ℕ) (later : List (List ℕ)) (first : S) (front : List ℕ) → lines ≡ header ∷ later → form.header header ≡ Some (first, front) → Leads form.lines first later front r → IsBegunBy form lines r
+
+module _ {S : Type 0} (form : FeedForm S) where
+  begun_by : (lines : List (List ℕ)) → IsBegunBy form lines (read_items (step_at form) begun lines)
+  begun_by [] = by_none refl (λ s is. absurd (cc))
+  begun_by (line ∷ lines) = by_case (by_first form line (nat_lt 4096 (length line)))
+    where
+      more : Step S → Read S
+      more step = read_items (step_at form) (read_more start 0 [] step) lines
+
+      by_case : HeaderIs form line (step_at form start line) → IsBegunBy form (line ∷ lines) (more (step_at form start line))
+      by_case (header_opens first front is step) =
+          subst (IsBegunBy form (line ∷ lines)) (sym (ap more step)) (by_lines line lines first front refl is (leads_by form lines first 1 front))
+      by_case (header_none why step) =
+          subst (IsBegunBy form (line ∷ lines)) (sym (ap more step ∙ items_bad form why 1 [] lines)) (by_none refl (λ s is. absurd (cc)))
+
+  -- what is settled of a feed is what its good lines settle
+  pub settled_leads : (octets : List ℕ) → IsSettledBy form octets (settled form octets)
+  unfolding read_on
+  settled_leads octets = by_case (begun_by (lines_of octets))
+    where
+      by_case : IsBegunBy form (lines_of octets) (read_items (step_at form) begun (lines_of octets)) → IsSettledBy form octets (read_items (step_at form) begun (lines_of octets)).text
+      by_case (by_none nothing not_ended) = inl nothing
+      by_case (by_lines header later first front lines opens leads) =
+          inr (record {
+            header = header;
+            first = first;
+            front = front;
+            good = leads.good_lines;
+            following = leads.following;
+            last = leads.final;
+            settled = leads.settled_text;
+            lines = lines ∙ ap (λ xs. header ∷ xs) leads.split;
+            opens = opens;
+            leads = leads.leads;
+            whole = leads.all;
+          })
+
+  -- an answer Done comes of what is read to the last line
+  done_at : (at : At S) (number : ℕ) (text rest : List ℕ) → (answer_at form.lines at number text rest).status ≡ Done
+      → (s : S) × (at ≡ ended s) × (rest ≡ []) × ((answer_at form.lines at number text rest).text ≡ text ++ form.lines.closing s)
+  done_at start number text rest is = absurd (cc)
+  done_at (in_lines s) number text rest is = absurd (cc)
+  done_at (ended s) number text [] is = (s, refl, refl, refl)
+  done_at (ended s) number text (c ∷ rest) is = absurd (cc)
+  done_at (is_bad why) number text rest is = absurd (cc)
+
+  -- a feed that is answered Done is a header, good lines and the last line
+  pub done_leads : (octets : List ℕ) → (feed_answer form octets).status ≡ Done → IsDone form octets (feed_answer form octets).text
+  unfolding answer_on read_on
+  done_leads octets is =
+      let r = read_items (step_at form) begun (lines_of octets) in
+      by_case (begun_by (lines_of octets)) (done_at r.at r.number r.text (rest_of octets) is)
+    where
+      by_case : let r = read_items (step_at form) begun (lines_of octets) in
+          let text = (answer_of form r (rest_of octets)).text in
+          IsBegunBy form (lines_of octets) r → (s : S) × (r.at ≡ ended s) × (rest_of octets ≡ []) × (text ≡ r.text ++ form.lines.closing s) → IsDone form octets text
+      by_case (by_none nothing not_ended) (s, at, no_rest, text) = absurd (not_ended s at)
+      by_case (by_lines header later first front lines opens leads) (s, at, no_rest, text) =
+          let tail = subst (λ at. IsTail form.lines at leads.following leads.final) at leads.tail in
+          record {
+            header = header;
+            first = first;
+            front = front;
+            good = leads.good_lines;
+            last = leads.final;
+            settled = leads.settled_text;
+            lines = lines ∙ ap (λ xs. header ∷ xs) (leads.split ∙ ap (λ xs. leads.good_lines ++ xs) tail.1);
+            nothing_after = no_rest;
+            opens = opens;
+            leads = leads.leads;
+            may_end = tail.2;
+            whole = text ∙ ap (λ t. t ++ form.lines.closing s) leads.all ∙ ap (λ e. (front ++ leads.settled_text) ++ form.lines.closing e) tail.0;
+          }

@@ -1,0 +1,5 @@
+pub mod Folds
+pub mod Counting
+pub mod FeedLines
+pub mod Courses
+pub mod Leading

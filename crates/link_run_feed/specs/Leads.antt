@@ -1,0 +1,43 @@
+-- Feeds as lists of good lines. This is the project's own.
+use Rattle.std.specs.Prelude.{codes, ◌≡◌, ◌⊎◌, true, ℕ, List, [], ◌∷◌, ◌++◌, Some, Ok}
+use Rattle.link_text.specs.Lines.{lines_of, rest_of}
+use Rattle.link_run_feed.specs.Feed.{LineForm, FeedForm}
+
+-- These lines are good, each in the state that those before it give. They lead to this last state, and settle this text.
+abbrev pub LeadTo : {S : Type 0} → LineForm S → S → List (List ℕ) → S → List ℕ → Type 0
+LeadTo form s [] last text = (last ≡ s) × (text ≡ [])
+LeadTo {S} form s (line ∷ lines) last text =
+    (next : S) × (settled more : List ℕ) × (form.line s line ≡ Ok (next, settled)) × LeadTo form next lines last more × (text ≡ settled ++ more)
+
+-- The octets begin with a header and good lines, and this text is what these settle.
+pub record IsLedBy {S : Type 0} (form : FeedForm S) (octets text : List ℕ) : Type 0 where
+  pub header : List ℕ
+  pub first : S
+  pub front : List ℕ
+  pub good : List (List ℕ)
+  pub following : List (List ℕ)
+  pub last : S
+  pub settled : List ℕ
+  pub lines : lines_of octets ≡ header ∷ (good ++ following)
+  pub opens : form.header header ≡ Some (first, front)
+  pub leads : LeadTo form.lines first good last settled
+  pub whole : text ≡ front ++ settled
+
+-- what is settled of a feed: nothing, or what a header and the good lines after it settle
+abbrev pub IsSettledBy : {S : Type 0} → FeedForm S → List ℕ → List ℕ → Type 0
+IsSettledBy form octets text = (text ≡ []) ⊎ IsLedBy form octets text
+
+-- The octets are a header, good lines and the last line, with nothing after it, and this is the whole text.
+pub record IsDone {S : Type 0} (form : FeedForm S) (octets text : List ℕ) : Type 0 where
+  pub header : List ℕ
+  pub first : S
+  pub front : List ℕ
+  pub good : List (List ℕ)
+  pub last : S
+  pub settled : List ℕ
+  pub lines : lines_of octets ≡ header ∷ (good ++ codes "end" ∷ [])
+  pub nothing_after : rest_of octets ≡ []
+  pub opens : form.header header ≡ Some (first, front)
+  pub leads : LeadTo form.lines first good last settled
+  pub may_end : form.lines.may_end last ≡ true
+  pub whole : text ≡ (front ++ settled) ++ form.lines.closing last

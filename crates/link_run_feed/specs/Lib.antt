@@ -1,0 +1,10 @@
+pub mod Answer
+pub mod Code
+pub mod Counts
+pub mod Course
+pub mod Feed
+pub mod FeedCalls
+pub mod Given
+pub mod Promises
+pub mod Reasons
+pub mod Leads
