@@ -1,0 +1,5 @@
+pub mod Checks
+pub mod FileReading
+pub mod Judging
+pub mod PlanCases
+pub mod Yes

@@ -1,0 +1,6 @@
+pub mod Check
+pub mod ChecksPlan
+pub mod OnPlan
+pub mod PlanCalls
+pub mod PlanFile
+pub mod Texts
