@@ -1,0 +1,11 @@
+pub mod Symbols
+pub mod Frames
+pub mod Changes
+pub mod Receives
+pub mod Managed
+pub mod Events
+pub mod HandsIn
+pub mod Handed
+pub mod Inspect
+pub mod Inspects
+pub mod Course

@@ -1,0 +1,17 @@
+//! The form `inspect LINE`: what the frames of a line say of synchronization, the signal, announcements and management.
+#![tactic(auto)]
+
+mod changes;
+mod channel_octets;
+mod channels;
+mod events;
+mod inspection;
+mod inspector;
+mod reception;
+mod symbols;
+mod words;
+
+pub use inspection::inspect;
+
+#[cfg(test)]
+mod tests;
