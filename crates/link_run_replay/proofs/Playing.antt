@@ -1,0 +1,109 @@
+-- The entries that leave at some ticks, one tick after another, and their lines.
+use Rattle.std.proofs.Common.{inl, inr, ◌≡◌, ◌∙◌, ◌+◌, ◌-◌, ◌≤◌, ◌<◌, ◌++◌, [], ℕ, List, length, Option, Some, None, sym, ap, subst, refl, arith, add-one, append_assoc, append-nil}
+use Rattle.std.specs.Prelude.{slice_get}
+use Rattle.std.specs.List.{flat_map, range_with_len}
+use Rattle.std.proofs.lemmas.List.Concat.{flat_map-append}
+use Rattle.std.proofs.lemmas.Bool.{cases_lt}
+use Rattle.std.proofs.lemmas.Option.{slice_get_cases}
+use Rattle.link_base.specs.Sink.{Taken, AppendsFront}
+use Rattle.carrier_plan.specs.declared.plan.Flow.{Flow}
+use Rattle.carrier_plan.specs.declared.plan.Plan.{Plan}
+use Rattle.plan_checker.specs.Packets.{run_packets}
+use Rattle.link_receiver.specs.Output.{entries_at, entries_before}
+use Rattle.link_receiver.specs.Received.{taken}
+use Rattle.link_base.specs.Record.{Record}
+use Rattle.link_text.specs.Gathered.{Gathers, BreaksOff}
+use Rattle.link_run_replay.specs.EntryLines.{entry_lines, entry_line, entries_between, flow_line, line_of_flow}
+use Rattle.link_text.proofs.GatheredLines.{range_split}
+use Rattle.link_text.proofs.Gathering.{gathers_none, gathers_then, breaks_then, front_of_more}
+
+module _ (p : Plan) (h : ℕ) (records : List Record) where
+  pub between_none : (from to : ℕ) → to ≤ from → entries_between p h records from to ≡ []
+  unfolding entries_between
+  between_none from to past =
+      let none : to - from ≡ 0 = omega arith in
+      ap (λ n. flat_map (entries_at p h records) (range_with_len from n)) none
+
+  -- the ticks as far as one in the middle, and those from there on
+  pub between_split : (from mid to : ℕ) → from ≤ mid → mid ≤ to → entries_between p h records from to ≡ entries_between p h records from mid ++ entries_between p h records mid to
+  unfolding entries_between
+  between_split from mid to first second =
+      let all : to - from ≡ (mid - from) + (to - mid) = omega arith in
+      let there : from + (mid - from) ≡ mid = omega arith in
+      ap (λ n. flat_map (entries_at p h records) (range_with_len from n)) all
+      ∙ ap (flat_map (entries_at p h records)) (range_split from (mid - from) (to - mid) ∙ ap (λ b. range_with_len from (mid - from) ++ range_with_len b (to - mid)) there)
+      ∙ flat_map-append (entries_at p h records) (range_with_len from (mid - from)) (range_with_len mid (to - mid))
+
+  pub between_one : (tick next : ℕ) → next ≡ tick + 1 → entries_between p h records tick next ≡ entries_at p h records tick
+  unfolding entries_between
+  between_one tick next is =
+      let one : next - tick ≡ 1 = omega arith in
+      ap (λ n. flat_map (entries_at p h records) (range_with_len tick n)) one ∙ append-nil (entries_at p h records tick)
+
+  pub lines_split : (from mid to : ℕ) → from ≤ mid → mid ≤ to
+      → entry_lines (entries_between p h records from to) ≡ entry_lines (entries_between p h records from mid) ++ entry_lines (entries_between p h records mid to)
+  lines_split from mid to first second =
+      ap entry_lines (between_split from mid to first second) ∙ flat_map-append entry_line (entries_between p h records from mid) (entries_between p h records mid to)
+
+  -- no tick was played yet
+  pub gathers_begun : (tick : ℕ) (hand : List ℕ) (sink : Taken) → Gathers (entry_lines (entries_between p h records tick tick)) hand sink hand sink
+  gathers_begun tick hand sink =
+      let past : tick ≤ tick = omega arith in
+      subst (λ es. Gathers (entry_lines es) hand sink hand sink) (sym (between_none tick tick past)) (gathers_none hand sink)
+
+  -- the entries of a tick more were gathered
+  pub gathers_tick : (from tick next : ℕ) (hand hand1 hand2 : List ℕ) (old mid new : Taken) → from ≤ tick → next ≡ tick + 1
+      → Gathers (entry_lines (entries_between p h records from tick)) hand old hand1 mid → Gathers (entry_lines (entries_at p h records tick)) hand1 mid hand2 new
+      → Gathers (entry_lines (entries_between p h records from next)) hand old hand2 new
+  gathers_tick from tick next hand hand1 hand2 old mid new behind is first second =
+      subst (λ text. Gathers text hand old hand2 new)
+      (ap (λ es. entry_lines (entries_between p h records from tick) ++ entry_lines es) (sym (between_one tick next is)) ∙ sym (lines_split from tick next behind (omega arith)))
+      (gathers_then _ _ hand hand1 hand2 old mid new first second)
+
+  -- a write failed at a tick
+  pub breaks_tick : (from tick to : ℕ) (hand hand1 : List ℕ) (old mid new : Taken) → from ≤ tick → tick < to
+      → Gathers (entry_lines (entries_between p h records from tick)) hand old hand1 mid → BreaksOff (entry_lines (entries_at p h records tick)) hand1 mid new
+      → BreaksOff (entry_lines (entries_between p h records from to)) hand old new
+  breaks_tick from tick to hand hand1 old mid new behind within first front =
+      let this = entry_lines (entries_at p h records tick) in
+      let rest = entry_lines (entries_between p h records (tick + 1) to) in
+      let split : entry_lines (entries_between p h records tick to) ≡ this ++ rest =
+      lines_split tick (tick + 1) to (omega arith) (omega arith) ∙ ap (λ es. entry_lines es ++ rest) (between_one tick (tick + 1) refl) in
+      subst (λ text. BreaksOff text hand old new)
+      (ap (λ text. entry_lines (entries_between p h records from tick) ++ text) (sym split) ∙ sym (lines_split from tick to behind (omega arith)))
+      (breaks_then _ (this ++ rest) hand hand1 old mid new first
+      (subst (λ text. AppendsFront text mid new) (append_assoc hand1 this rest) (front_of_more (hand1 ++ this) rest mid new front)))
+
+  -- where play ended
+  pub gathers_to : (from now to : ℕ) (hand hand1 : List ℕ) (old new : Taken) → (from ≤ to → now ≡ to) → (to ≤ from → now ≡ from)
+      → Gathers (entry_lines (entries_between p h records from now)) hand old hand1 new → Gathers (entry_lines (entries_between p h records from to)) hand old hand1 new
+  gathers_to from now to hand hand1 old new ahead stays gathers = elim (cases_lt from to) [
+    | inl below ↦ subst (λ n. Gathers (entry_lines (entries_between p h records from n)) hand old hand1 new) (ahead (omega arith)) gathers
+    | inr beyond ↦
+        let here : now ≤ from = omega (arith, stays beyond) in
+        subst (λ es. Gathers (entry_lines es) hand old hand1 new) (between_none from now here ∙ sym (between_none from to beyond)) gathers
+  ]
+
+-- the entries of the tick before the present one
+pub entries_of_last : (p p' : Plan) (h h' : ℕ) (records : List Record) (tick tick' : ℕ) → p' ≡ p → h' ≡ h → tick' ≡ tick + 1
+    → entries_before p' h' records tick' ≡ entries_at p h records tick
+entries_of_last p p' h h' records tick tick' same_plan same_frames next =
+    ap (λ p. entries_before p h' records tick') same_plan ∙ ap (λ h. entries_before p h records tick') same_frames
+    ∙ ap (entries_before p h records) (next ∙ add-one tick)
+
+-- the line of a flow by what was counted of it
+module _ (p : Plan) (h : ℕ) (records : List Record) (place got packets : ℕ) where
+  flow_by : (found : Option Flow) → slice_get p.flows place ≡ found → place < length p.flows
+      → ((flow : Flow) → slice_get p.flows place ≡ Some flow → (got ≡ taken p flow h records) × (packets ≡ run_packets p flow h))
+      → flow_line place got packets ≡ line_of_flow p h records place found
+  flow_by None is within counts = elim (slice_get_cases p.flows place).1 [
+    | inl some ↦ absurd (let no = sym is ∙ some.2 in cc)
+    | inr past ↦ absurd (omega (arith, past.0))
+  ]
+  flow_by (Some flow) is within counts =
+      let both = counts flow is in ap (λ got. flow_line place got packets) both.0 ∙ ap (flow_line place (taken p flow h records)) both.1
+
+  pub flow_counted : place < length p.flows
+      → ((flow : Flow) → slice_get p.flows place ≡ Some flow → (got ≡ taken p flow h records) × (packets ≡ run_packets p flow h))
+      → flow_line place got packets ≡ line_of_flow p h records place (slice_get p.flows place)
+  flow_counted within counts = flow_by (slice_get p.flows place) refl within counts

@@ -1,0 +1,10 @@
+use Rattle.std.proofs.Common.{true}
+use Rattle.link_run_replay.specs.Replay.{play}
+use Rattle.link_run_replay.proofs.replay.replay_capture.Goals as goal
+
+pub returns-in-Ok-clause-promises : goal.returns-in-Ok-clause-promises
+returns-in-Ok-clause-promises g c =
+    c.in-Ok.ensures.goes_on.promises true (play c.args.capture.now) (g.H.Shelf.shown c.play.new.shelf) (g.K.Sink.taken c.play.new.out) c.play.result c.play.ensures.promises
+
+pub returns-in-Err-clause-promises : goal.returns-in-Err-clause-promises
+returns-in-Err-clause-promises g c = c.in-Err.ensures.ends true (play c.args.capture.now)

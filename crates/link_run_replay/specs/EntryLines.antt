@@ -1,0 +1,42 @@
+-- The samples that leave and the counts of the flows, in the text that is printed of them. The text is this project's own.
+use Rattle.std.specs.Prelude.{codes, decimal, ℕ, ◌-◌, List, [], ◌∷◌, ◌++◌, length, slice_get, Option, Some, None}
+use Rattle.std.specs.Fmt.{signed_decimal}
+use Rattle.std.specs.List.{flat_map, range_with_len}
+use Rattle.carrier_plan.specs.declared.plan.Flow.{Flow}
+use Rattle.carrier_plan.specs.declared.plan.Plan.{Plan}
+use Rattle.plan_checker.specs.Packets.{run_packets}
+use Rattle.sample_bits.specs.declared.iq.RawIq.{RawIq}
+use Rattle.link_base.specs.Record.{Record}
+use Rattle.link_receiver.specs.declared.session.Entry.{Entry}
+use Rattle.link_receiver.specs.Output.{entries_at}
+use Rattle.link_receiver.specs.Received.{taken}
+use Rattle.link_text.specs.Printed.{lines_below}
+
+-- a sample, or the mark in its place
+abbrev pub value_text : Option RawIq → List ℕ
+value_text None = codes "-"
+value_text (Some sample) = signed_decimal sample.i ++ codes " " ++ signed_decimal sample.q
+
+-- a sample as it leaves: its tick, its carrier and its number, and the sample
+unfoldable pub entry_line : Entry → List ℕ
+entry_line entry =
+    decimal entry.tick ++ codes " " ++ decimal entry.carrier ++ codes " " ++ decimal entry.number ++ codes " " ++ value_text entry.value ++ 10 ∷ []
+
+abbrev pub entry_lines : List Entry → List ℕ
+entry_lines entries = flat_map entry_line entries
+
+-- the entries of the ticks from one on, as far as below another
+unfoldable pub entries_between : Plan → ℕ → List Record → ℕ → ℕ → List Entry
+entries_between p h records from to = flat_map (entries_at p h records) (range_with_len from (to - from))
+
+-- how many packets of the flow at place f were received, and how many were missed
+unfoldable pub flow_line : (f taken packets : ℕ) → List ℕ
+flow_line f taken packets = codes "flow " ++ decimal f ++ codes " taken " ++ decimal taken ++ codes " missed " ++ decimal (packets - taken) ++ 10 ∷ []
+
+abbrev pub line_of_flow : Plan → ℕ → List Record → ℕ → Option Flow → List ℕ
+line_of_flow p h records place None = []
+line_of_flow p h records place (Some f) = flow_line place (taken p f h records) (run_packets p f h)
+
+-- the lines of all flows
+abbrev pub flow_lines : Plan → ℕ → List Record → List ℕ
+flow_lines p h records = lines_below (λ place. line_of_flow p h records place (slice_get p.flows place)) (length p.flows)

@@ -1,0 +1,13 @@
+//! The call `replay`: captured packets are played, and the samples that leave are printed.
+#![tactic(auto)]
+
+mod capture_run;
+mod entry_lines;
+mod laws;
+mod replay;
+
+pub use laws::{captures_are_replayed, text_is_whole};
+pub use replay::replay_capture;
+
+#[cfg(test)]
+mod tests;
