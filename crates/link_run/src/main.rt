@@ -1,32 +1,13 @@
 //! `roe_link`: whether a plan of a CPRI link in Radio-over-Ethernet packets holds.
 #![tactic(auto)]
 
-mod capture;
-mod carriers_in_words;
-mod check;
-mod events;
-mod feed;
-mod fields;
-mod flows_in_words;
 mod form;
 mod people;
-mod plan_file;
-mod playback;
-mod played;
-mod reason;
-mod replay;
-mod replay_form;
-mod rules_in_words;
 mod run;
-mod startup;
-mod status;
-mod text_buffer;
-mod verdict;
 
 use link_base::{FileShelf, StdSink};
-pub use reason::Reason;
+use link_run_feed::{Status, code};
 pub use run::run;
-pub use status::{Status, code};
 use std::env;
 use std::io::{self, ErrorKind};
 use std::process::ExitCode;

@@ -1,28 +1,36 @@
 // The top call: one answer for each call of the program.
-ghost use Rattle.std.specs.Prelude.{◌≡◌, ℕ, List, map, string_bytes, IsTrue, Some};
-ghost use Rattle.link_run.specs.Form.{form_of, check, replay};
-ghost use Rattle.link_run.specs.CodeForm.{form_shown};
-ghost use Rattle.link_run.specs.Plays.{ReplaysCapture};
-ghost use Rattle.link_run.specs.Promises.{Promises, IsComplete, ChecksPlan};
+ghost use Rattle.std.specs.Prelude.{◌≡◌, ◌≢◌, ◌↔◌, ◌∷◌, [], ℕ, List, codes, map, string_bytes, IsTrue, None};
+ghost use Rattle.link_run_feed.specs.Promises.{Promises, IsComplete};
+ghost use Rattle.link_run_plan.specs.ChecksPlan.{ChecksPlan};
+ghost use Rattle.link_run.specs.Call.{call_of, course_of, reads_feed};
+ghost use Rattle.link_run.specs.CodeForm.{call_shown};
+ghost use Rattle.link_run.specs.Plays.{PlaysCapture};
 
-use crate::check::check_plan;
 use crate::form::{Form, form_of};
-use crate::replay_form::replay_capture;
-use crate::startup::play_events;
-use crate::status::Status;
 use link_base::{Shelf, Sink};
+use link_run_delay::samples_are_delayed;
+use link_run_feed::Status;
+use link_run_inspect::inspect;
+use link_run_plan::check_plan;
+use link_run_replay::replay_capture;
+use link_run_startup::play_events;
 use std::alloc::Global;
 
 /// Answers the words after the program's name: reads the files that they name on the shelf, and writes the text of the
 /// answer to the sink.
 pub fn run<H: Shelf, K: Sink>(alloc: Global, words: &[String], shelf: &mut H, out: &mut K) -> Status
-    ensures promises { Promises (form_of (map string_bytes words.now)) (H.shown shelf.old) (H.shown shelf.new) (K.taken out.old) (K.taken out.new) result }
-    ensures complete { IsComplete (form_of (map string_bytes words.now)) (H.shown shelf.old) (H.shown shelf.new) (K.taken out.old) (K.taken out.new) result }
-    ensures checks { (plan : List ℕ) → form_of (map string_bytes words.now) ≡ Some (check plan) → IsTrue (H.shown shelf.old).tells
+    // the words alone say whether they are of a form, and words of none touch nothing
+    ensures usage { (result ≡ Status.Usage) ↔ (call_of (map string_bytes words.now) ≡ None) }
+    ensures untouched { call_of (map string_bytes words.now) ≡ None → (H.shown shelf.new ≡ H.shown shelf.old) × (K.taken out.new ≡ K.taken out.old) }
+    ensures promises { let call = call_of (map string_bytes words.now) in
+        Promises (reads_feed call) (course_of call (H.shown shelf.old).held) (H.shown shelf.old) (H.shown shelf.new) (K.taken out.old) (K.taken out.new) result }
+    ensures complete { IsComplete (course_of (call_of (map string_bytes words.now)) (H.shown shelf.old).held) (H.shown shelf.old) (H.shown shelf.new) (K.taken out.old) (K.taken out.new) result }
+    ensures checks { (plan : List ℕ) → map string_bytes words.now ≡ codes "check" ∷ plan ∷ [] → IsTrue (H.shown shelf.old).tells
         → ChecksPlan plan (H.shown shelf.old).held (K.taken out.old) (K.taken out.new) result }
-    ensures replays { (plan capture : List ℕ) → form_of (map string_bytes words.now) ≡ Some (replay plan capture) → IsTrue (H.shown shelf.old).tells
-        → result ≡ Status.Done → ReplaysCapture plan capture (H.shown shelf.old).held (K.taken out.old) (K.taken out.new) }
+    ensures replays { (plan capture : List ℕ) → map string_bytes words.now ≡ codes "replay" ∷ plan ∷ capture ∷ [] → IsTrue (H.shown shelf.old).tells
+        → result ≡ Status.Done → PlaysCapture plan capture (H.shown shelf.old).held (K.taken out.old) (K.taken out.new) }
 {
+    samples_are_delayed();
     run_form(alloc, form_of(words), shelf, out)
 }
 
@@ -33,12 +41,15 @@ fn run_form<H: Shelf, K: Sink>(
     shelf: &mut H,
     out: &mut K,
 ) -> Status
-    ensures { Promises (form_shown form.entry) (H.shown shelf.old) (H.shown shelf.new) (K.taken out.old) (K.taken out.new) result }
+    ensures usage { (result ≡ Status.Usage) ↔ (call_shown form.entry ≡ None) }
+    ensures untouched { call_shown form.entry ≡ None → (H.shown shelf.new ≡ H.shown shelf.old) × (K.taken out.new ≡ K.taken out.old) }
+    ensures promises { Promises (reads_feed (call_shown form.entry)) (course_of (call_shown form.entry) (H.shown shelf.old).held) (H.shown shelf.old) (H.shown shelf.new) (K.taken out.old) (K.taken out.new) result }
 {
     match form {
         None => Status::Usage,
         Some(Form::Check { plan }) => check_plan(alloc, plan, shelf, out),
         Some(Form::Startup { events }) => play_events(alloc, events, shelf, out),
+        Some(Form::Inspect { line }) => inspect(alloc, line, shelf, out),
         Some(Form::Replay { plan, capture }) => replay_capture(alloc, plan, capture, shelf, out),
     }
 }

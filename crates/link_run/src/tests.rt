@@ -1,41 +1,92 @@
-// Whole calls over files and a sink in memory.
+// Whole calls over files and a sink in memory: what holds of every form stands here once, and a form joins by a row.
 ghost use Rattle.std.specs.Prelude.{◌<◌};
 
-use crate::{Reason, Status, code, run};
-use carrier_plan::{Field, Part, PlanText, Spot};
+use crate::run;
 use link_base::{MemShelf, MemSink, NoMemory};
+use link_run_feed::Status;
 use std::alloc::Global;
+use std::process::Abort;
 use std::test::Fail;
 
-mod check;
-mod words;
+/// Room for every text.
+const AMPLE: usize = 4096;
 
-/// The keys of a plan before its carriers.
-const TOP: &str = "version = 1\noption = 1\nmode = \"bytes\"\nplayout = 2\n";
+/// A file, and how many octets of the text stand once so many of its lines are read, from none on. The last count stands for
+/// all further lines.
+#[derive(Clone, Copy)]
+struct File {
+    name: &'static str,
+    content: &'static str,
+    settled: &'static [usize],
+}
 
-/// One carrier of one sample in each frame, with 8 bits of I and of Q.
-const CARRIER: &str = "[[carrier]]\nmethod = 1\ns = 1\nk = 1\nm = 8\nstart = 0\nsize = 16\n";
-
-/// A flow of two carriers, of one frame in a packet.
-const BOTH_CARRIERS: &str =
-    "[[flow]]\nid = 7\ndst = \"020000000001\"\nsrc = \"020000000002\"\ncontrol = true\ncarriers = [0, 1]\nframes = 1\nlmin = 0\nlmax = 2\ncap = 3\np = 4\nq = 4\n";
-
-/// One flow of that carrier, of one frame in a packet.
-const FLOW: &str =
-    "[[flow]]\nid = 7\ndst = \"020000000001\"\nsrc = \"020000000002\"\ncontrol = true\ncarriers = [0]\nframes = 1\nlmin = 0\nlmax = 2\ncap = 3\np = 4\nq = 4\n";
-
-const YES: &str = "yes\ncarrier 0 delay 3\nflow 0 holds 3\n";
-
-pub(crate) const AMPLE: usize = 4096;
+/// A call that answers `Done`: its words, its files and its text.
+#[derive(Clone, Copy)]
+struct Call<'a> {
+    words: &'a [&'a str],
+    files: &'a [File],
+    text: &'a str,
+}
 
 /// What a call left: its status and the text that was written.
 #[derive(Debug, Drop)]
-pub(crate) struct Outcome {
-    pub(crate) status: Status,
-    pub(crate) text: Vec<u8>,
+struct Outcome {
+    status: Status,
+    text: Vec<u8>,
 }
 
-fn words_of(alloc: Global, words: &[&str]) -> Result<Vec<String>, NoMemory> {
+/// A plan of one carrier of one sample in each frame, and of a flow of one frame in a packet.
+const PLAN: File = File {
+    name: "plan",
+    content: "version = 1\noption = 1\nmode = \"bytes\"\nplayout = 2\n[[carrier]]\nmethod = 1\ns = 1\nk = 1\nm = 8\nstart = 0\nsize = 16\n[[flow]]\nid = 7\ndst = \"020000000001\"\nsrc = \"020000000002\"\ncontrol = true\ncarriers = [0]\nframes = 1\nlmin = 0\nlmax = 2\ncap = 3\np = 4\nq = 4\n",
+    settled: &[0],
+};
+
+const EVENTS: File = File {
+    name: "events",
+    content: "startup 3 20 5 40\nstart 1\nstart 2\ntell 1\nhear 2\nreset 1\nend\n",
+    settled: &[0, 0, 9, 18, 27, 36, 45],
+};
+
+/// A capture of four ticks, of which the first sample is settled by the record of tick 4.
+const CAPTURE: File = File {
+    name: "capture",
+    content: "capture 4\n0 020000000001020000000002fc3d0207001000000000bc00000000000000000000000000000000000000000000000000000000000000000000000000\n1 020000000001020000000002fc3d020700100000000100b3aa0000000000000000000000000000000000000000000000000000000000000000000000\n2 020000000001020000000002fc3d02070010000000020100000000000000000000000000000000000000000000000000000000000000000000000000\n3 020000000001020000000002fc3d02070010000000030001000000000000000000000000000000000000000000000000000000000000000000000000\n4 020000000001020000000002fc3d02070010000100000002000000000000000000000000000000000000000000000000000000000000000000000000\nend\n",
+    settled: &[0, 0, 0, 0, 0, 0, 11],
+};
+
+/// A frame with a comma, and a frame of zeros, whose symbols are all violations of the line code.
+const LINE: File = File {
+    name: "line",
+    content: "line 1 2\n7c196db4d1461b6db4d1461b6db4d1461b6db4d1\n0000000000000000000000000000000000000000\nend\n",
+    settled: &[0, 0, 13, 22],
+};
+
+/// A row for each form.
+const CALLS: [Call<'static>; 4] = [
+    Call {
+        words: &["check", "plan"],
+        files: &[PLAN],
+        text: "yes\ncarrier 0 delay 3\nflow 0 holds 3\n",
+    },
+    Call {
+        words: &["startup", "events"],
+        files: &[EVENTS],
+        text: "1 B 3 20\n2 B 5 40\n1 B 3 20\n2 C 5 40\n1 A 3 20\nend\n",
+    },
+    Call {
+        words: &["inspect", "line"],
+        files: &[LINE],
+        text: "0 sync found\n1 los on\nend 2 16\n",
+    },
+    Call {
+        words: &["replay", "plan", "capture"],
+        files: &[PLAN, CAPTURE],
+        text: "3 0 0 5 -3\n4 0 1 0 0\n5 0 2 1 0\n6 0 3 0 1\nflow 0 taken 5 missed 0\nend\n",
+    },
+];
+
+fn owned(alloc: Global, words: &[&str]) -> Result<Vec<String>, NoMemory> {
     let mut owned = Vec::new(alloc);
     for word in words {
         owned.push(String::from_str(alloc, *word)?)?;
@@ -43,22 +94,23 @@ fn words_of(alloc: Global, words: &[&str]) -> Result<Vec<String>, NoMemory> {
     Ok(owned)
 }
 
-/// Runs the words over a shelf with one file named `a`, by pieces of so many octets.
-pub(crate) fn run_on(
+/// Runs a call with pieces of so many octets, so much room, and one file that fails from an offset on.
+fn run_on(
     alloc: Global,
-    words: &[&str],
-    file: &[u8],
+    call: &Call<'_>,
     piece: usize,
     room: usize,
-    stop: Option<u64>,
+    stop: Option<(&str, u64)>,
 ) -> Result<Outcome, NoMemory>
     requires { 0 < piece }
 {
-    let words = words_of(alloc, words)?;
+    let words = owned(alloc, call.words)?;
     let mut shelf = MemShelf::new(alloc, piece);
-    shelf.add("a", file)?;
-    if let Some(offset) = stop {
-        shelf.stop("a", offset)?;
+    for file in call.files {
+        shelf.add(file.name, file.content.as_bytes())?;
+    }
+    if let Some((name, offset)) = stop {
+        shelf.stop(name, offset)?;
     }
     let mut out = MemSink::new(alloc, room, piece)?;
     let status = run(alloc, words.as_slice(), &mut shelf, &mut out);
@@ -66,212 +118,100 @@ pub(crate) fn run_on(
     Ok(Outcome { status, text })
 }
 
-fn check_file(alloc: Global, file: &[u8]) -> Result<Outcome, NoMemory> {
-    run_on(alloc, &["check", "a"], file, AMPLE, AMPLE, None)
-}
-
-fn plan_of(alloc: Global, top: &str, carriers: &str, flows: &str) -> Result<String, NoMemory> {
-    let mut text = String::from_str(alloc, top)?;
-    text.push_str(carriers)?;
-    text.push_str(flows)?;
-    Ok(text)
+/// How much of the text stands once the first octets of a file were read.
+fn settled(file: &File, offset: usize) -> usize {
+    let before = file.content.as_bytes().iter().take(offset);
+    let lines = before.filter(|c| **c == b'\n').count();
+    let counts = file.settled.iter().take(lines.saturating_add(1));
+    counts.last().copied().unwrap_or(0)
 }
 
 #[test]
-fn a_plan_is_answered_by_its_first_failure(rt: HostRuntime) -> Result<(), Fail> {
-    let rows = [
-        (CARRIER, YES, Status::Done),
-        (
-            "[[carrier]]\nmethod = 1\ns = 1\nk = 1\nm = 8\nstart = 104\nsize = 16\n",
-            YES,
-            Status::Done,
-        ),
-        (
-            "[[carrier]]\nmethod = 1\ns = 1\nk = 1\nm = 8\nstart = 105\nsize = 16\n",
-            "no 7 0\n",
-            Status::No { rule: 7, item: 0 },
-        ),
-        (
-            "[[carrier]]\nmethod = 1\ns = 1\nk = 1\nm = 3\nstart = 0\nsize = 6\n",
-            "no 5 0\n",
-            Status::No { rule: 5, item: 0 },
-        ),
-        (
-            "[[carrier]]\nmethod = 1\ns = 1\nk = 1\nm = 8\nstart = 0\n",
-            "plan missing carrier 0 size\n",
-            Status::PlanText(PlanText::Missing(Spot {
-                part: Part::Carrier(0),
-                field: Field::Size,
-            })),
-        ),
-        ("", "no 2 0\n", Status::No { rule: 2, item: 0 }),
-    ];
-    for (carriers, text, status) in rows {
-        let plan = plan_of(rt.alloc(), TOP, carriers, FLOW)?;
-        let outcome = check_file(rt.alloc(), plan.as_str().as_bytes())?;
-        assert_eq!(rt; outcome.text.as_slice(), text.as_bytes(), "{carriers}");
-        assert_eq!(rt; outcome.status, status, "{carriers}");
+fn the_pieces_do_not_matter(rt: HostRuntime) -> Result<(), Fail> {
+    for call in &CALLS {
+        for piece in [1, 2, 7, AMPLE] {
+            assert!(rt; piece > 0);
+            let outcome = run_on(rt.alloc(), call, piece, call.text.len(), None)?;
+            assert_eq!(rt; outcome.text.as_slice(), call.text.as_bytes());
+            assert_eq!(rt; outcome.status, Status::Done, "pieces of {piece}");
+        }
     }
     Ok(())
 }
 
 #[test]
-fn two_equal_carriers_share_their_bits(rt: HostRuntime) -> Result<(), Fail> {
-    let one = plan_of(rt.alloc(), TOP, CARRIER, CARRIER)?;
-    let two = plan_of(rt.alloc(), one.as_str(), BOTH_CARRIERS, "")?;
-    let outcome = check_file(rt.alloc(), two.as_str().as_bytes())?;
-    assert_eq!(rt; outcome.text.as_slice(), b"no 8 1\n".as_slice());
-    assert_eq!(rt; outcome.status, Status::No { rule: 8, item: 1 });
+fn a_write_fault_leaves_the_first_octets_of_the_text(rt: HostRuntime) -> Result<(), Fail> {
+    for call in &CALLS {
+        let text = call.text.as_bytes();
+        for room in 0..text.len() {
+            let outcome = run_on(rt.alloc(), call, AMPLE, room, None)?;
+            assert_eq!(rt; outcome.text.as_slice(), &text[..room], "room {room}");
+            assert_eq!(rt; outcome.status, Status::WriteFault, "room {room}");
+        }
+    }
+    Ok(())
+}
+
+// Stops a file of a call at each of its offsets.
+fn stop_everywhere(
+    rt: &impl Abort,
+    alloc: Global,
+    call: &Call<'_>,
+    file: &File,
+) -> Result<(), Fail> {
+    for offset in 0..file.content.len() + 1 {
+        let stop = Some((file.name, offset as u64));
+        let outcome = run_on(alloc, call, 7, AMPLE, stop)?;
+        let stands = settled(file, offset);
+        assert!(rt; stands <= call.text.len());
+        assert_eq!(rt;
+            outcome.text.as_slice(),
+            &call.text.as_bytes()[..stands],
+            "a stop at {offset}"
+        );
+        assert_eq!(rt; outcome.status, Status::ReadFault, "a stop at {offset}");
+    }
     Ok(())
 }
 
 #[test]
-fn words_of_no_form_touch_nothing(rt: HostRuntime) -> Result<(), Fail> {
-    let none: [&str; 0] = [];
-    let rows: [&[&str]; 6] = [
-        &none,
-        &["chek", "a"],
-        &["startup"],
-        &["startup", "a", "b"],
-        &["check", "a", "b"],
-        &["drill", "007"],
-    ];
-    for words in rows {
-        let outcome = run_on(rt.alloc(), words, b"", AMPLE, AMPLE, None)?;
-        assert_eq!(rt; outcome.status, Status::Usage);
+fn a_read_fault_leaves_what_is_settled(rt: HostRuntime) -> Result<(), Fail> {
+    for call in &CALLS {
+        for file in call.files {
+            stop_everywhere(&rt, rt.alloc(), call, file)?;
+        }
+        let absent = Call {
+            words: call.words,
+            files: &[],
+            text: "",
+        };
+        let outcome = run_on(rt.alloc(), &absent, AMPLE, AMPLE, None)?;
+        assert_eq!(rt; outcome.status, Status::ReadFault);
         assert_eq!(rt; outcome.text.len(), 0);
     }
     Ok(())
 }
 
 #[test]
-fn a_file_that_is_no_plan_is_told_by_its_fault(rt: HostRuntime) -> Result<(), Fail> {
-    let rows = [
-        (b"\xff".as_slice(), "plan utf8\n"),
-        (b"version".as_slice(), "plan toml\n"),
-        (b"".as_slice(), "plan missing version\n"),
-        (b"version = \"1\"".as_slice(), "plan kind version\n"),
-        (b"version = 2".as_slice(), "plan value version\n"),
-        (
-            b"version = 1\noption = 1\nmode = \"bytes\"\nplayout = 2\nrate = 1\n".as_slice(),
-            "plan extra top\n",
-        ),
+fn words_of_no_form_touch_nothing(rt: HostRuntime) -> Result<(), Fail> {
+    let rows: [&[&str]; 7] = [
+        &[],
+        &["chek", "a"],
+        &["startup"],
+        &["startup", "a", "b"],
+        &["check", "a", "b"],
+        &["replay", "a"],
+        &["drill", "007"],
     ];
-    for (file, text) in rows {
-        let outcome = check_file(rt.alloc(), file)?;
-        assert_eq!(rt; outcome.text.as_slice(), text.as_bytes(), "{text}");
-        assert_eq!(rt; code(&outcome.status), 3, "{text}");
-    }
-    let carriers = [
-        ("[[carrier]]\nmethod = 1\n", "plan missing carrier 0 s\n"),
-        (
-            "[[carrier]]\nmethod = 1\ns = \"1\"\n",
-            "plan kind carrier 0 s\n",
-        ),
-        ("[[carrier]]\nmethod = 2\n", "plan value carrier 0 method\n"),
-        (
-            "[[carrier]]\nmethod = 1\ns = 1\nk = 1\nm = 8\nstart = 0\nsize = 16\nrate = 1\n",
-            "plan extra carrier 0\n",
-        ),
-    ];
-    for (carrier, text) in carriers {
-        let plan = plan_of(rt.alloc(), TOP, carrier, FLOW)?;
-        let outcome = check_file(rt.alloc(), plan.as_str().as_bytes())?;
-        assert_eq!(rt; outcome.text.as_slice(), text.as_bytes(), "{text}");
-        assert_eq!(rt; code(&outcome.status), 3, "{text}");
+    for words in rows {
+        let call = Call {
+            words,
+            files: &[],
+            text: "",
+        };
+        let outcome = run_on(rt.alloc(), &call, AMPLE, AMPLE, None)?;
+        assert_eq!(rt; outcome.status, Status::Usage);
+        assert_eq!(rt; outcome.text.len(), 0);
     }
     Ok(())
-}
-
-#[test]
-fn a_plan_of_65536_octets_is_read_and_a_longer_one_is_long(rt: HostRuntime) -> Result<(), Fail> {
-    let plan = plan_of(rt.alloc(), TOP, CARRIER, FLOW)?;
-    let mut octets = Vec::from_slice(rt.alloc(), plan.as_str().as_bytes())?;
-    for _ in octets.len()..65_536 {
-        octets.push(b'#')?;
-    }
-    let outcome = check_file(rt.alloc(), octets.as_slice())?;
-    assert_eq!(rt; outcome.text.as_slice(), YES.as_bytes());
-    octets.push(b'#')?;
-    let outcome = check_file(rt.alloc(), octets.as_slice())?;
-    assert_eq!(rt; outcome.text.as_slice(), b"plan long\n".as_slice());
-    assert_eq!(rt; outcome.status, Status::PlanText(PlanText::Long));
-    Ok(())
-}
-
-#[test]
-fn a_read_fault_writes_nothing(rt: HostRuntime) -> Result<(), Fail> {
-    let plan = plan_of(rt.alloc(), TOP, CARRIER, FLOW)?;
-    let file = plan.as_str().as_bytes();
-    for offset in 0..file.len() + 1 {
-        let outcome = run_on(
-            rt.alloc(),
-            &["check", "a"],
-            file,
-            AMPLE,
-            AMPLE,
-            Some(offset as u64),
-        )?;
-        assert_eq!(rt; outcome.status, Status::ReadFault, "a stop at {offset}");
-        assert_eq!(rt; outcome.text.len(), 0, "a stop at {offset}");
-    }
-    let outcome = run_on(rt.alloc(), &["check", "b"], file, AMPLE, AMPLE, None)?;
-    assert_eq!(rt; outcome.status, Status::ReadFault);
-    Ok(())
-}
-
-#[test]
-fn a_write_fault_leaves_the_first_octets(rt: HostRuntime) -> Result<(), Fail> {
-    let plan = plan_of(rt.alloc(), TOP, CARRIER, FLOW)?;
-    let file = plan.as_str().as_bytes();
-    for room in 0..YES.len() {
-        let outcome = run_on(rt.alloc(), &["check", "a"], file, AMPLE, room, None)?;
-        assert_eq!(rt; outcome.status, Status::WriteFault, "room {room}");
-        assert_eq!(rt;
-            outcome.text.as_slice(),
-            &YES.as_bytes()[..room],
-            "room {room}"
-        );
-    }
-    Ok(())
-}
-
-#[test]
-fn the_pieces_do_not_matter(rt: HostRuntime) -> Result<(), Fail> {
-    let plan = plan_of(rt.alloc(), TOP, CARRIER, FLOW)?;
-    let file = plan.as_str().as_bytes();
-    for piece in [1, 2, 7, AMPLE] {
-        assert!(rt; piece > 0);
-        let outcome = run_on(rt.alloc(), &["check", "a"], file, piece, YES.len(), None)?;
-        assert_eq!(rt; outcome.status, Status::Done, "pieces of {piece}");
-        assert_eq!(rt;
-            outcome.text.as_slice(),
-            YES.as_bytes(),
-            "pieces of {piece}"
-        );
-    }
-    Ok(())
-}
-
-#[test]
-fn each_status_has_its_code(rt: HostRuntime) {
-    let rows = [
-        (Status::Done, 0),
-        (Status::No { rule: 7, item: 0 }, 1),
-        (Status::Usage, 2),
-        (Status::PlanText(PlanText::Long), 3),
-        (
-            Status::FeedBad {
-                line: 1,
-                reason: Reason::Header,
-            },
-            4,
-        ),
-        (Status::ReadFault, 5),
-        (Status::WriteFault, 6),
-        (Status::NoMemory, 7),
-    ];
-    for (status, number) in rows {
-        assert_eq!(rt; code(&status), number);
-    }
 }
