@@ -1,0 +1,5 @@
+pub mod CarriedBits
+pub mod Symbols
+pub mod Parts
+pub mod Routes
+pub mod Laws

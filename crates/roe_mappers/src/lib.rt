@@ -1,0 +1,2 @@
+//! The payload modes: what the packets of a flow carry of a basic frame.
+#![tactic(auto)]
