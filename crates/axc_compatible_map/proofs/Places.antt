@@ -6,11 +6,11 @@ use Rattle.link_base.specs.Bits.{bit_of}
 use Rattle.sample_bits.specs.BlockPlace.{bit_in_block}
 use Rattle.sample_bits.specs.Blocks.{IsSpan, IsStuffed, PutsContainer}
 use Rattle.sample_bits.specs.SampleRate.{IsSampleRate}
-use Rattle.sample_bits.proofs.RateLemmas.{some_frames, div_ceil-enough, div_ceil-le, lt-div_ceil}
+use Rattle.sample_bits.proofs.RateLemmas.{some_frames, div_ceil-enough, div_ceil-least, div_ceil-le, lt-div_ceil}
 use Rattle.axc_compatible_map.specs.Container.{bit_of_container, frame_containers, prescribed_size}
 use Rattle.axc_compatible_map.specs.Place.{place_in_block}
 use Rattle.axc_compatible_map.specs.Laws.{PlacesAreWithin, PlacesAreDistinct, PlacesAreInTime}
-use Rattle.axc_compatible_map.proofs.Stuffing.{block_containers, carrier_of, carrier_of-below, carrier_of-some, sample_of-carrier, some_containers, sample_containers-at, carried-or_stuffing, is_stuffing-carrier}
+use Rattle.axc_compatible_map.proofs.Stuffing.{block_containers, carrier_of, carrier_of-below, carrier_of-share, carrier_of-some, sample_of-carrier, some_containers, sample_containers-at, carried-or_stuffing, is_stuffing-carrier, is_stuffing-false}
 
 -- ---- numbers of containers
 
@@ -47,6 +47,39 @@ sample_of-container : (s k r : ℕ) → 1 ≤ s → 1 ≤ k → container_at s k
 sample_of-container s k r samples frames =
     let few = some_containers s k samples frames in
     sample_of-carrier s (block_containers s k) r samples (omega arith) few
+
+-- ---- a block of one frame, each of whose containers carries a sample
+
+pub containers_of_one : (s k : ℕ) → k ≡ 1 → frame_containers s k ≡ s
+containers_of_one s k one =
+    let enough = div_ceil-enough s k (omega arith) in
+    let least = div_ceil-least s k (omega arith) in
+    let scaled = ap (λ n. frame_containers s k * n) one in
+    omega arith
+
+block_of_one : (s k : ℕ) → k ≡ 1 → block_containers s k ≡ s
+block_of_one s k one =
+    let count = containers_of_one s k one in
+    let scaled = ap (λ n. frame_containers s k * n) one in
+    omega arith
+
+pub container_of_one : (s k r : ℕ) → 1 ≤ s → k ≡ 1 → container_at s k r ≡ r
+container_of_one s k r samples one =
+    let scaled = ap (λ n. (r + 1) * n) (block_of_one s k one) in
+    carrier_of-share s (block_containers s k) r r 0 samples (omega arith) (omega arith)
+
+pub bit_of_container-one : (s k : ℕ) (bits : ℕ → ℕ → ℕ) (phase j b : ℕ) → 1 ≤ s → k ≡ 1 → phase < k → bit_of_container s k bits (phase * frame_containers s k + j) b ≡ bits j b
+bit_of_container-one s k bits phase j b samples one frame =
+    let n = frame_containers s k in
+    let t = block_containers s k in
+    let u : ℕ = phase * n + j in
+    let nothing : phase ≡ 0 = omega arith in
+    let none_before = ap (λ p. p * n) nothing in
+    let here : u ≡ j = omega arith in
+    let all = block_of_one s k one in
+    let product : u * s ≡ j * s + 0 = ap (λ v. v * s) here ∙ omega arith in
+    let quotient : u * s / t ≡ j = ap (λ d. u * s / d) all ∙ ap (λ v. v / s) product ∙ div-mul-add j s 0 samples in
+    ap (λ v. cond v 0 (bits (u * s / t) b)) (is_stuffing-false u s k (omega arith) (omega arith)) ∙ ap (λ v. bits v b) quotient
 
 whole_place : (w n u : ℕ) → 0 < n → u / n * (w * n) + u % n * w ≡ w * u
 whole_place w n u some =

@@ -9,7 +9,7 @@ ghost use Rattle.axc_compatible_map.specs.Container.{bit_of_container, frame_con
 ghost use Rattle.axc_compatible_map.specs.Place.{place_in_block};
 
 use crate::container::containers;
-use sample_bits::{Iq, RawIq, SampleWord, put_bits};
+use sample_bits::{Iq, RawIq, SampleWord, put_bits, write_run};
 
 /// Writes the containers of frame `phase` of the block from bit `at` on, stuffing as 0. All other bits stay.
 pub fn pack_frame<const M: u32>(
@@ -41,15 +41,7 @@ pub fn pack_raw(block: &[RawIq], m: u32, s: u32, k: u32, phase: u32, out: &mut [
     ensures { PutsContainer m s (prescribed_size m s k) (place_in_block m s k) phase
         (bit_of_sample block.now) out.old out.new at }
 {
-    macro_rules! by_width {
-        ($($width:literal)*) => {
-            match m {
-                $($width => pack(block, $width, s, k, phase, out, at),)*
-                _ => pack(block, 20, s, k, phase, out, at),
-            }
-        };
-    }
-    by_width!(4 5 6 7 8 9 10 11 12 13 14 15 16 17 18 19)
+    pack(block, m, s, k, phase, out, at);
 }
 
 #[inline]
@@ -62,6 +54,11 @@ fn pack<T: SampleWord>(block: &[T], m: u32, s: u32, k: u32, phase: u32, out: &mu
     ensures { PutsContainer m s (prescribed_size m s k) (place_in_block m s k) phase
         (bit_of_item T.sample block.now) out.old out.new at }
 {
+    // Every container of a block of one frame carries a sample.
+    if k == 1 {
+        write_run(block, m, out, at);
+        return;
+    }
     put_containers(block, m, s, k, phase, &mut out[at / 8..], at % 8);
 }
 

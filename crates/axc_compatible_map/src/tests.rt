@@ -50,3 +50,21 @@ fn a_run_is_read_where_it_stands(rt: HostRuntime) -> Result<(), Fail> {
     assert_eq!(&rt; samples, [RawIq { i: 1, q: 1 }, RawIq { i: 1, q: 1 }]);
     Ok(())
 }
+
+// The four samples of a frame, from bit 4 on. What stands around them stays.
+#[test]
+#[tactic(auto, using(crate::proofs::Rates::usual_rates))]
+fn a_block_of_one_frame_has_no_stuffing(rt: HostRuntime) {
+    let block = [
+        RawIq { i: 1, q: 0 },
+        RawIq { i: 3, q: 0 },
+        RawIq { i: 1, q: 1 },
+        RawIq { i: 0, q: 1 },
+    ];
+    let mut frame = [0x0f, 0xff, 0xff, 0xff, 0xff];
+    pack_raw(&block, 4, 4, 1, 0, &mut frame, 4);
+    assert_eq!(&rt; frame, [0x1f, 0x50, 0x30, 0x20, 0xf0]);
+    let mut last = [RawIq { i: 0, q: 0 }];
+    unpack_raw(&frame, 4, 4, 4, 1, 3, &mut last);
+    assert_eq!(&rt; last, [RawIq { i: 0, q: 1 }]);
+}

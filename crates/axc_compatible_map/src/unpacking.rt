@@ -7,7 +7,7 @@ ghost use Rattle.axc_compatible_map.specs.Container.{prescribed_size};
 ghost use Rattle.axc_compatible_map.specs.Place.{place_in_block};
 
 use crate::container::{container_of, containers};
-use sample_bits::{Iq, RawIq};
+use sample_bits::{Iq, RawIq, read_run};
 
 /// Reads sample `r` from the containers of a block, which stand one after another from bit 0 of the octets on.
 pub fn unpack<const M: u32>(ring: &[u8], s: u32, k: u32, r: u32) -> Iq<M>
@@ -38,6 +38,12 @@ pub fn unpack_run<const M: u32>(
         (prescribed_size M s k) (place_in_block M s k (first + i)) octets.now start) out.new i }
 {
     let octets = &octets[start / 8..];
+
+    // Every container of a block of one frame carries a sample.
+    if k == 1 {
+        read_run::<M>(octets, start % 8 + 2 * M as usize * first as usize, out);
+        return;
+    }
     let all = containers(s, k) * k;
     let (whole, rest) = (all / s, all % s);
 

@@ -21,6 +21,14 @@ containers_enough m s k some = let room = div_ceil-enough (m * s) k some in omeg
 pub containers_least : (m s k : ℕ) → 1 ≤ k → k * prescribed_size m s k < 2 * m * s + 2 * k
 containers_least m s k some = let least = div_ceil-least (m * s) k some in omega arith
 
+-- in a block of one frame
+pub size_of_one : (m s k : ℕ) → k ≡ 1 → prescribed_size m s k ≡ 2 * m * s
+size_of_one m s k one =
+    let enough = div_ceil-enough (m * s) k (omega arith) in
+    let least = div_ceil-least (m * s) k (omega arith) in
+    let scaled = ap (λ n. div_ceil (m * s) k * n) one in
+    omega arith
+
 -- a bit below another number of containers
 bits_below : (m s r b : ℕ) → r < s → b < 2 * m → 2 * m * r + b < 2 * m * s
 bits_below m s r b within small =

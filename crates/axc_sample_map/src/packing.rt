@@ -8,7 +8,7 @@ ghost use Rattle.axc_sample_map.specs.Container.{bit_in_run, prescribed_size};
 ghost use Rattle.axc_sample_map.specs.Place.{place_in_block};
 
 use crate::container::size;
-use sample_bits::{Iq, RawIq, SampleWord, clear_bits, put_bits};
+use sample_bits::{Iq, RawIq, SampleWord, clear_bits, put_bits, write_run};
 
 /// Writes the container of frame `phase` of the block at bit `at`, stuffing as 0. All other bits stay.
 pub fn pack_frame<const M: u32>(
@@ -40,15 +40,7 @@ pub fn pack_raw(block: &[RawIq], m: u32, s: u32, k: u32, phase: u32, out: &mut [
     ensures { PutsContainer m s (prescribed_size m s k) (place_in_block m s k) phase
         (bit_of_sample block.now) out.old out.new at }
 {
-    macro_rules! by_width {
-        ($($width:literal)*) => {
-            match m {
-                $($width => pack(block, $width, s, k, phase, out, at),)*
-                _ => pack(block, 20, s, k, phase, out, at),
-            }
-        };
-    }
-    by_width!(4 5 6 7 8 9 10 11 12 13 14 15 16 17 18 19)
+    pack(block, m, s, k, phase, out, at);
 }
 
 #[inline]
@@ -61,6 +53,11 @@ fn pack<T: SampleWord>(block: &[T], m: u32, s: u32, k: u32, phase: u32, out: &mu
     ensures { PutsContainer m s (prescribed_size m s k) (place_in_block m s k) phase
         (bit_of_item T.sample block.now) out.old out.new at }
 {
+    // A block of one frame has whole samples and no stuffing.
+    if k == 1 {
+        write_run(block, m, out, at);
+        return;
+    }
     let size = size(m, s, k) as usize;
     put_run(
         block,

@@ -8,3 +8,4 @@ pub mod SampleOfBits
 pub mod RateLemmas
 pub mod BlockLemmas
 mod ShortLemmas
+pub mod FilledLemmas

@@ -4,7 +4,7 @@ use Rattle.std.specs.Int.{bit_at}
 use Rattle.std.proofs.lemmas.Nat.Bits.{bit_at_above}
 use Rattle.sample_bits.specs.declared.iq.RawIq.{RawIq}
 use Rattle.sample_bits.specs.Samples.{int_bit, sample_bit, IsWithin}
-use Rattle.sample_bits.proofs.BitLemmas.{even_or_odd, lt_from_bits, bit_at-shr}
+use Rattle.sample_bits.proofs.BitLemmas.{even_or_odd, lt_from_bits}
 use Rattle.sample_bits.proofs.SignLemmas.{same_from_int_bits}
 
 pub sample_bit-even : (s : RawIq) (j : ℕ) → sample_bit s (2 * j) ≡ int_bit s.i j

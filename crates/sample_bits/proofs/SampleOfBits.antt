@@ -1,17 +1,18 @@
 -- The sample that given bits stand for is the one sample of its width with these bits.
-use Rattle.std.proofs.Common.{◌≡◌, ℕ, zero, suc, ◌+◌, ◌-◌, ◌*◌, ◌/◌, ◌^◌, ◌<◌, ◌≤◌, pos, negsuc, eqb, sym, refl, ap, ◌∙◌, arith, ⊎_elim}
+use Rattle.std.proofs.Common.{◌≡◌, ℕ, zero, suc, ◌+◌, ◌-◌, ◌*◌, ◌/◌, ◌^◌, ◌<◌, ◌≤◌, List, pos, negsuc, eqb, sym, refl, ap, ◌∙◌, arith, ⊎_elim}
 use Rattle.std.specs.Int.{bit_at}
 use Rattle.std.proofs.Math.Nat.{pow-suc}
 use Rattle.std.proofs.lemmas.Bool.{cases_lt, cond_both, eqb-true, eqb-false}
 use Rattle.std.proofs.lemmas.Int.{ints}
 use Rattle.std.proofs.lemmas.Nat.{pow_pos, le-div}
-use Rattle.std.proofs.lemmas.Nat.Bits.{bit_at_lowest, bit_at-suc}
+use Rattle.std.proofs.lemmas.Nat.Bits.{bit_at_lowest, bit_at-lt, bit_at-suc}
+use Rattle.link_base.specs.Bits.{bit_of}
 use Rattle.sample_bits.specs.declared.iq.RawIq.{RawIq}
 use Rattle.sample_bits.specs.Samples.{FitsBits, IsWithin, int_bit, sample_bit}
 use Rattle.sample_bits.proofs.BitLemmas.{even_or_odd}
 use Rattle.sample_bits.proofs.SampleLemmas.{sample_bit-even, sample_bit-odd, same_from_sample_bits}
 use Rattle.sample_bits.proofs.SignLemmas.{FitsBits-lowered, int_bit-lowered}
-use Rattle.sample_bits.specs.SampleOfBits.{number_of_bits, in_complement, sample_of_bits}
+use Rattle.sample_bits.specs.SampleOfBits.{number_of_bits, in_complement, sample_at, sample_of_bits}
 
 -- each of the first n bits is 0 or 1
 abbrev pub AreBits : ℕ → (ℕ → ℕ) → Type 0
@@ -113,3 +114,10 @@ sample_of_bits-same m bits others same =
     let i = number_of_bits-same m (λ j. bits (2 * j)) (λ j. others (2 * j)) (λ b h. same (2 * b) (omega arith)) in
     let q = number_of_bits-same m (λ j. bits (2 * j + 1)) (λ j. others (2 * j + 1)) (λ b h. same (2 * b + 1) (omega arith)) in
     ap (λ n. halves n (number_of_bits m (λ j. bits (2 * j + 1)))) i ∙ ap (halves (number_of_bits m (λ j. others (2 * j)))) q
+
+-- the sample that a word gives whose bits stand in the octets
+pub sample_at-word : (m : ℕ) (octets : List ℕ) (from word : ℕ) (s : RawIq) → 1 ≤ m → m ≤ 32 → IsWithin m s → ((k : ℕ) → k < 2 * m → sample_bit s k ≡ bit_at word k)
+    → ((b : ℕ) → b < 2 * m → bit_at word b ≡ bit_of octets (from + b)) → s ≡ sample_at m octets from
+sample_at-word m octets from word s some few within bits there =
+    sample_of_bits-unique m (bit_at word) s (omega arith) (omega arith) (λ b h. omega (arith, bit_at-lt word b)) within bits
+    ∙ sample_of_bits-same m (bit_at word) (λ b. bit_of octets (from + b)) there

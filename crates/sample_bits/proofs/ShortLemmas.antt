@@ -3,7 +3,8 @@ use Rattle.std.proofs.Common.{◌≡◌, ℕ, ◌+◌, ◌-◌, ◌*◌, ◌/◌
 use Rattle.std.specs.Int.{bit_at}
 use Rattle.std.proofs.lemmas.Bool.{cases_lt}
 use Rattle.std.proofs.lemmas.Nat.{and_mask}
-use Rattle.std.proofs.lemmas.Nat.Bits.{bit_at_above, bit_at-lt, bit_at_or}
+use Rattle.std.proofs.lemmas.Nat.Bits.{bit_at_above, bit_at_or}
+use Rattle.sample_bits.specs.Spread.{IsSpread}
 use Rattle.sample_bits.proofs.BitLemmas.{lt_from_bits, bit_at-mod, bit_at-mod_above, bit_at-shl, bit_at-shl_below, bit_at-shr}
 
 -- ---- both halves in one word, one after the other
@@ -29,6 +30,48 @@ beside-high even odd j fits small h =
 
 pub beside-lt : (even odd : ℕ) → even < 2 ^ 16 → odd < 2 ^ 16 → beside even odd < 2 ^ 32
 beside-lt even odd fits small = lt_from_bits (beside even odd) 32 (λ j h. beside-high even odd j fits small (omega arith) ∙ bit_at_above odd 16 (j - 16) small (omega arith))
+
+-- ---- both halves as runs of 16 bits
+
+abbrev pub apart : ℕ → ℕ → ℕ
+apart even odd = bit_or even (odd * 2 ^ 32 % 2 ^ 64)
+
+apart-low : (even odd j : ℕ) → j < 32 → bit_at (apart even odd) j ≡ bit_at even j
+apart-low even odd j h =
+    let both = bit_at_or even (odd * 2 ^ 32 % 2 ^ 64) j in
+    let none = bit_at-mod (odd * 2 ^ 32) 64 j (omega arith) ∙ bit_at-shl_below odd 32 j h in
+    omega arith
+
+apart-high : (even odd j : ℕ) → even < 2 ^ 16 → odd < 2 ^ 16 → 32 ≤ j → bit_at (apart even odd) j ≡ bit_at odd (j - 32)
+apart-high even odd j fits small h =
+    let both = bit_at_or even (odd * 2 ^ 32 % 2 ^ 64) j in
+    let none = bit_at_above even 16 j fits (omega arith) in
+    let moved = ⊎_elim
+    (λ within. bit_at-mod (odd * 2 ^ 32) 64 j within ∙ bit_at-shl odd 32 j h)
+    (λ above. bit_at-mod_above (odd * 2 ^ 32) 64 j above ∙ sym (bit_at_above odd 16 (j - 32) small (omega arith)))
+    (cases_lt j 64) in
+    omega arith
+
+pub IsSpread-apart : (even odd : ℕ) → even < 2 ^ 16 → odd < 2 ^ 16 → IsSpread 16 (apart even odd) (bit_at (beside even odd))
+IsSpread-apart even odd fits small = record {
+  runs = λ a r h. ⊎_elim
+      (λ first.
+      let here : a * 32 + r ≡ r = omega arith in
+      let there : a * 16 + r ≡ r = omega arith in
+      ap (bit_at (apart even odd)) here ∙ apart-low even odd r (omega arith) ∙ sym (beside-low even odd r h) ∙ ap (bit_at (beside even odd)) (sym there))
+      (λ next.
+      apart-high even odd (a * 32 + r) fits small (omega arith)
+      ∙ ⊎_elim
+      (λ second. ap (bit_at odd) (let e : a * 32 + r - 32 ≡ a * 16 + r - 16 = omega arith in e))
+      (λ past. bit_at_above odd 16 (a * 32 + r - 32) small (omega arith) ∙ sym (bit_at_above odd 16 (a * 16 + r - 16) small (omega arith)))
+      (cases_lt a 2)
+      ∙ sym (beside-high even odd (a * 16 + r) fits small (omega arith)))
+      (cases_lt a 1);
+  gaps = λ a r h. ⊎_elim
+      (λ first. apart-low even odd (a * 32 + 16 + r) (omega arith) ∙ bit_at_above even 16 (a * 32 + 16 + r) fits (omega arith))
+      (λ next. apart-high even odd (a * 32 + 16 + r) fits small (omega arith) ∙ bit_at_above odd 16 (a * 32 + 16 + r - 32) small (omega arith))
+      (cases_lt a 1);
+}
 
 -- ---- the spread word folded at its middle
 

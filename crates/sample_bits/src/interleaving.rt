@@ -36,7 +36,7 @@ fn weave_short(even: u64, odd: u64) -> u64
     ensures at_even { (j : ℕ) → bit_at result (2 * j) ≡ bit_at even j }
     ensures at_odd { (j : ℕ) → bit_at result (2 * j + 1) ≡ bit_at odd j }
 {
-    let both = spread(even | odd << 16);
+    let both = spread_sixteens(even | odd << 32);
     (both | both >> 31) & 0xffff_ffff
 }
 
@@ -77,7 +77,14 @@ fn spread(half: u64) -> u64
     ensures at_even { (j : ℕ) → bit_at result (2 * j) ≡ bit_at half j }
     ensures at_odd { (j : ℕ) → bit_at result (2 * j + 1) ≡ 0 }
 {
-    let sixteens = part_runs(half, 16, 0x0000_ffff_0000_ffff);
+    spread_sixteens(part_runs(half, 16, 0x0000_ffff_0000_ffff))
+}
+
+// The same for a half whose bits stand in runs of 16 already.
+#[inline]
+fn spread_sixteens(sixteens: u64) -> u64
+    ensures { (bits : ℕ → ℕ) → EndBelow32 bits → IsSpread 16 sixteens bits → IsSpread 1 result bits }
+{
     let octets = part_runs(sixteens, 8, 0x00ff_00ff_00ff_00ff);
     let fours = part_runs(octets, 4, 0x0f0f_0f0f_0f0f_0f0f);
     let pairs = part_runs(fours, 2, 0x3333_3333_3333_3333);

@@ -2,6 +2,7 @@
 ghost use Rattle.std.specs.Prelude.{◌≡◌, ℕ, ◌+◌, ◌*◌, ◌^◌, ◌<◌, ◌≤◌, ◌↔◌, IsTrue, length};
 ghost use Rattle.std.specs.Int.{bit_at};
 ghost use Rattle.std.specs.Option.{SomeIff};
+ghost use Rattle.link_base.specs.Bits.{bit_of};
 ghost use Rattle.sample_bits.specs.declared.iq.RawIq.{RawIq as Raw};
 ghost use Rattle.sample_bits.specs.Samples.{int_bit, sample_bit, FitsBits, IsWithin};
 ghost use Rattle.sample_bits.specs.SampleOfBits.{sample_at};
@@ -105,8 +106,19 @@ impl<const M: u32> Iq<M> {
         requires within { from + 2 * M ≤ 8 * length octets.now }
         ensures { result ≡ sample_at M octets.now from }
     {
+        Self::deinterleave(Self::word_at(octets, from))
+    }
+
+    // The bits of a sample that stand from bit `from` of the octets on.
+    #[inline]
+    pub(crate) fn word_at(octets: &[u8], from: usize) -> u64
+        requires most { M ≤ 20 }
+        requires within { from + 2 * M ≤ 8 * length octets.now }
+        ensures bits { (b : ℕ) → b < 2 * M → bit_at result b ≡ bit_of octets.now (from + b) }
+        ensures no_others { result < 2 ^ (2 * M) }
+    {
         let bits = load(&octets[from / 8..]) >> (from % 8);
-        Self::deinterleave(bits & ((1 << (2 * M)) - 1))
+        bits & ((1 << (2 * M)) - 1)
     }
 }
 

@@ -8,11 +8,13 @@ mod iq;
 mod put;
 mod run;
 mod words;
+mod writing;
 
 pub use copy::copy_bits;
 pub use iq::{Iq, RawIq, SampleWord};
 pub use put::{clear_bits, put_bits};
 pub use run::read_run;
+pub use writing::write_run;
 
 #[cfg(test)]
 mod tests;

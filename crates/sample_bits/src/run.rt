@@ -14,9 +14,17 @@ pub fn read_run<const M: u32>(octets: &[u8], from: usize, out: &mut [RawIq])
     ensures { (i : ℕ) → i < length out.old
         → HoldsAt (λ s. s ≡ sample_at M octets.now (from + 2 * M * i)) out.new i }
 {
-    let mut at = from;
-    for sample in out.iter_mut() {
-        *sample = Iq::<M>::read(octets, at).wide();
-        at += 2 * M as usize;
+    // The bits of two samples are taken first, so that both are worked out side by side.
+    let count = out.len();
+    for pair in 0..count / 2 {
+        let at = from + 4 * M as usize * pair;
+        let first = Iq::<M>::word_at(octets, at);
+        let second = Iq::<M>::word_at(octets, at + 2 * M as usize);
+        out[2 * pair] = Iq::<M>::deinterleave(first).wide();
+        out[2 * pair + 1] = Iq::<M>::deinterleave(second).wide();
+    }
+    if count % 2 == 1 {
+        let last = count - 1;
+        out[last] = Iq::<M>::read(octets, from + 2 * M as usize * last).wide();
     }
 }

@@ -5,14 +5,53 @@ use Rattle.link_base.specs.Bits.{bit_of}
 use Rattle.sample_bits.specs.BlockPlace.{bit_in_block}
 use Rattle.sample_bits.specs.Blocks.{sample_in_block}
 use Rattle.sample_bits.proofs.OctetLemmas.{bit_of-rest}
-use Rattle.sample_bits.proofs.RateLemmas.{some_frames}
+use Rattle.sample_bits.proofs.RateLemmas.{some_frames, few_samples, div_ceil-least}
 use Rattle.sample_bits.proofs.SampleOfBits.{sample_of_bits-same}
 use Rattle.axc_compatible_map.specs.Container.{prescribed_size}
 use Rattle.axc_compatible_map.specs.Place.{place_in_block}
-use Rattle.axc_compatible_map.proofs.Places.{bit_in_block-place, container-below, few_in_block}
+use Rattle.axc_compatible_map.proofs.Places.{bit_in_block-place, container-below, container_of_one, containers_of_one, few_in_block}
 use Rattle.axc_compatible_map.proofs.Stuffing.{block_containers, carrier_of-share}
 use Rattle.axc_compatible_map.proofs.unpacking.unpack_run.Goals as goal
 use Rattle.axc_compatible_map.proofs.unpacking.unpack_run.Goals.{then-spare-rest, else-spare-rest}
+
+pub read_run-requires-clause-within : goal.read_run-requires-clause-within
+read_run-requires-clause-within g c =
+    let m = g.row.M in
+    let s = c.args.s in
+    let k = c.args.k in
+    let octets = c.args.octets.now in
+    let count = ap (λ n. 2 * m * n) (containers_of_one s k c.if-k-eq1.true) in
+    let size = ap (λ n. n * prescribed_size m s k) c.if-k-eq1.true in
+    let all = mul-le (2 * m) (c.args.first + length c.args.out.now) (2 * m) s (omega arith) c.requires.samples in
+    omega (arith, length-take (length octets - c.args.start / 8) (drop (c.args.start / 8) octets), length-drop (c.args.start / 8) octets)
+
+pub returns-then-k-eq1 : goal.returns-then-k-eq1
+returns-then-k-eq1 g c i h d =
+    let m = g.row.M in
+    let s = c.args.s in
+    let k = c.args.k in
+    let r : ℕ = c.args.first + i in
+    let start = c.args.start in
+    let octets = c.args.octets.now in
+    let o : ℕ = start / 8 in
+    let from : ℕ = start % 8 + 2 * m * c.args.first in
+    let rest = take (length octets - o) (drop o octets) in
+    let scaled = ap (λ n. 2 * m * n) (container_of_one s k r (omega arith) c.if-k-eq1.true) in
+    c.read_run.ensures i h d
+    ∙ sample_of_bits-same m (λ b. bit_of rest (from + 2 * m * i + b)) (λ b. bit_of octets (start + bit_in_block (prescribed_size m s k) (place_in_block m s k r b)))
+    (λ b small.
+    let place = bit_in_block-place m s k r b (omega arith) (some_frames s k c.requires.rate) (omega arith) in
+    bit_of-rest o octets (from + 2 * m * i + b) ∙ ap (bit_of octets) (omega arith))
+
+pub overflow_mul-spare : goal.overflow_mul-spare
+overflow_mul-spare g c =
+    let s = c.args.s in
+    let k = c.args.k in
+    let t = block_containers s k in
+    let least = div_ceil-least ((c.args.first + 1) * t) s (omega arith) in
+    let scaled = ap (λ n. n * s) c.container_of-container.ensures in
+    let most = mul-le (c.args.first + 1) t 3_073 3_072 (omega (arith, few_samples s k c.requires.rate)) (few_in_block s k c.requires.rate) in
+    omega (arith, few_samples s k c.requires.rate)
 
 pub read-requires : goal.read-requires
 read-requires g c =

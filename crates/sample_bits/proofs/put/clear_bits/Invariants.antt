@@ -1,4 +1,4 @@
-use Rattle.std.proofs.Common.{◌≡◌, ℕ, ◌-◌, ◌<◌, ◌≤◌, length}
+use Rattle.std.proofs.Common.{◌≡◌, ℕ, ◌-◌, ◌<◌, ◌≤◌}
 use Rattle.link_base.specs.Bits.{bit_of}
 use Rattle.sample_bits.proofs.put.clear_bits.Given as goal
 

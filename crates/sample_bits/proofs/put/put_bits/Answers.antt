@@ -1,6 +1,4 @@
-use Rattle.std.proofs.Common.{◌≡◌, ℕ, ◌+◌, ◌*◌, ◌/◌, ◌%◌, ◌<◌, ◌≤◌, ◌∙◌, ap, sym, refl, arith}
-use Rattle.std.specs.Int.{bit_at}
-use Rattle.link_base.specs.Bits.{bit_of}
+use Rattle.std.proofs.Common.{ℕ, ◌+◌, ◌*◌, ◌/◌, ◌%◌, ◌∙◌, sym, refl, arith}
 use Rattle.sample_bits.proofs.OctetLemmas.{bit_of-at, bit_of-rest}
 use Rattle.sample_bits.proofs.PutLemmas.{PutsBits-word}
 use Rattle.sample_bits.proofs.put.put_bits.Goals as goal
