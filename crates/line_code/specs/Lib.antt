@@ -1,5 +1,6 @@
 pub mod Code
-pub mod Decoded
 pub mod Line
 pub mod Packed
+pub mod Decoded
 pub mod Tables
+pub mod Clean

@@ -1,4 +1,5 @@
--- How symbols are packed into octets: their bits one after another. This is the project's own.
+-- How symbols stand in octets, one bit after another: bit a of the first symbol first, and the lowest bit of each octet first.
+-- Five octets have four symbols. This is the project's own.
 use Rattle.std.specs.Prelude.{ℕ, ◌+◌, ◌*◌, ◌/◌, ◌%◌, List, [], ◌∷◌, ◌++◌, slice_index}
 
 -- the forty bits of five octets as a number, the first bit lowest
@@ -9,8 +10,7 @@ word_of a b c d e = a + 256 * (b + 256 * (c + 256 * (d + 256 * e)))
 abbrev pub four_symbols : ℕ → List ℕ
 four_symbols word = word % 1024 ∷ word / 1024 % 1024 ∷ word / 1048576 % 1024 ∷ word / 1073741824 % 1024 ∷ []
 
--- The symbols that octets carry, one bit after another: bit a of the first symbol first, and the lowest bit of each octet
--- first. Five octets carry four symbols.
+-- the symbols in octets, of which whole groups of five count
 unfoldable pub symbols_in : List ℕ → List ℕ
 symbols_in (a ∷ b ∷ c ∷ d ∷ e ∷ octets) = four_symbols (word_of a b c d e) ++ symbols_in octets
 symbols_in _ = []

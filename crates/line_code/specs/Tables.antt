@@ -1,25 +1,72 @@
 -- How the entries of this project's own tables are laid out. No contract of a public call names them.
-use Rattle.std.specs.Prelude.{ℕ, Bool, not, ◌==◌, if◌then◌else◌, bit_and}
+use Rattle.std.specs.Prelude.{◌≡◌, ◌≤◌, ◌+◌, ◌*◌, ℕ, ◌/◌, ◌%◌, Bool, ◌==◌, if◌then◌else◌, bit_and, Option, Some, None}
 use Rattle.line_code.specs.declared.characters.Char.{Char}
 use Rattle.line_code.specs.declared.characters.Char.TheVariants.{Octet, Comma}
 use Rattle.line_code.specs.declared.characters.Rd.{Rd}
 use Rattle.line_code.specs.declared.characters.Rd.TheVariants.{Minus, Plus}
-use Rattle.line_code.specs.declared.tables.TheConstants.{AT_MINUS, AT_PLUS, CHANGES_DISPARITY, IS_COMMA, OCTET_BITS}
+use Rattle.line_code.specs.Code.{disparity_by_ones}
+use Rattle.line_code.specs.Decoded.{spelled_at, is_violation_by}
+use Rattle.line_code.specs.declared.tables.TheConstants.{CHANGES_DISPARITY}
 
 -- the other disparity
 abbrev pub opposite : Rd → Rd
 opposite Minus = Plus
 opposite Plus = Minus
 
+-- ---- an entry of the tables of symbols
+
 -- the disparity after the symbol of an entry
 unfoldable pub entry_disparity : Rd → ℕ → Rd
 entry_disparity rd entry = if bit_and entry CHANGES_DISPARITY == 0 then rd else opposite rd
 
--- the character that the symbol of an entry spells
-unfoldable pub entry_character : ℕ → Char
-entry_character entry = if bit_and entry IS_COMMA == 0 then Octet (bit_and entry OCTET_BITS) else Comma
+-- ---- an entry of the table of what symbols spell
 
--- whether the symbol of an entry spells its character at a disparity
-unfoldable pub is_spelled_at : Rd → ℕ → Bool
-is_spelled_at Minus entry = not (bit_and entry AT_MINUS == 0)
-is_spelled_at Plus entry = not (bit_and entry AT_PLUS == 0)
+-- with its bits about a disparity in the places of those about negative disparity
+abbrev pub about : Rd → ℕ → ℕ
+about Minus entry = entry
+about Plus entry = entry / 2
+
+-- the disparity after the symbol
+unfoldable pub disparity_past : Rd → ℕ → Rd
+disparity_past rd entry = if about rd entry % 2 == 1 then Plus else Minus
+
+-- 1 where the symbol is a violation at a disparity, and else 0
+unfoldable pub violations_of : Rd → ℕ → ℕ
+violations_of rd entry = about rd entry / 4 % 2
+
+abbrev pub is_spelled_at : Rd → ℕ → Bool
+is_spelled_at rd entry = violations_of rd entry == 0
+
+unfoldable pub is_comma_entry : ℕ → Bool
+is_comma_entry entry = entry / 16 % 2 == 1
+
+-- the character of a symbol that is no violation at both disparities
+unfoldable pub entry_character : ℕ → Char
+entry_character entry = if is_comma_entry entry then Comma else Octet (entry / 256)
+
+-- the character that the symbol spells at either disparity
+abbrev pub entry_decoded : ℕ → Option Char
+entry_decoded entry = if entry / 4 % 4 == 3 then None else Some (entry_character entry)
+
+-- ---- the marks of symbols
+
+-- a disparity as a number
+abbrev pub rd_number : Rd → ℕ
+rd_number Minus = 0
+rd_number Plus = 1
+
+-- The marks of a symbol of these bits, each 1 or 0: whether the disparity after it is positive, whether it stays, and whether
+-- the symbol is a violation at negative and at positive disparity.
+pub record HasMarks (bits marks : ℕ) : Type 0 where
+  pub plus : ℕ
+  pub stays : ℕ
+  pub at_minus : ℕ
+  pub at_plus : ℕ
+  pub value : marks ≡ plus + 16 * stays + 256 * at_minus + 4096 * at_plus
+  pub either : plus + stays ≤ 1
+  pub minus_few : at_minus ≤ 1
+  pub plus_few : at_plus ≤ 1
+  pub after_minus : rd_number (disparity_by_ones Minus bits) ≡ plus
+  pub after_plus : rd_number (disparity_by_ones Plus bits) ≡ plus + stays
+  pub violates_minus : is_violation_by (spelled_at Minus bits) ≡ at_minus
+  pub violates_plus : is_violation_by (spelled_at Plus bits) ≡ at_plus

@@ -6,15 +6,19 @@ mod characters;
 mod decoder;
 mod encoder;
 mod laws;
+mod packing;
+mod reading;
 mod tables;
 
 pub use characters::{Char, Rd, Symbol};
-pub use decoder::{check, decode, rd_after};
+pub use decoder::{check, decode, is_comma, octet_of, rd_after};
 pub use encoder::encode;
 pub use laws::{
     check_along_characters, check_along_frames, spelled_disparity_by_ones, spelled_in_ten_bits,
-    spells_one_character,
+    spells_one_character, symbols_bit_by_bit, symbols_of_pieces,
 };
+pub use packing::{five_octets, four_symbols, word_at};
+pub use reading::{LineState, four_octets, read_symbols, symbol_at};
 
 #[cfg(test)]
 mod tests;

@@ -18,18 +18,20 @@ const NO_CODE_GROUP: Symbol = Symbol {
 fn encode_spells_published_code_groups(rt: HostRuntime) -> Result<(), Fail> {
     let table = [
         // K28.5 is 001111 1010 and turns the disparity.
-        (Rd::Minus, Char::Comma, 0b0101_111100, Rd::Plus),
+        (Rd::Minus, Char::Comma, 0b0101_111100, Rd::Plus, 0xbc),
         // D16.2 is 100100 0101 and turns it back.
-        (Rd::Plus, Char::Octet(0x50), 0b1010_001001, Rd::Minus),
+        (Rd::Plus, Char::Octet(0x50), 0b1010_001001, Rd::Minus, 0x50),
         // D17.7 takes the alternate code: 100011 0111.
-        (Rd::Minus, Char::Octet(0xf1), 0b1110_110001, Rd::Plus),
+        (Rd::Minus, Char::Octet(0xf1), 0b1110_110001, Rd::Plus, 0xf1),
     ];
-    for (rd, ch, bits, after) in table {
+    for (rd, ch, bits, after, octet) in table {
         let (sym, next) = encode(rd, ch);
         assert_eq!(rt; sym.bits, bits);
         assert_eq!(rt; next, after);
         assert_eq!(rt; check(rd, sym), Some((ch, after)));
         assert_eq!(rt; decode(sym), Some(ch));
+        assert_eq!(rt; is_comma(sym), ch == Char::Comma);
+        assert_eq!(rt; octet_of(sym), octet);
     }
     Ok(())
 }
@@ -37,6 +39,7 @@ fn encode_spells_published_code_groups(rt: HostRuntime) -> Result<(), Fail> {
 #[test]
 fn a_symbol_that_nothing_spells_is_refused(rt: HostRuntime) -> Result<(), Fail> {
     assert_eq!(rt; decode(NO_CODE_GROUP), None);
+    assert_eq!(rt; octet_of(NO_CODE_GROUP), 0);
     assert_eq!(rt; check(Rd::Minus, NO_CODE_GROUP), None);
     assert_eq!(rt; check(Rd::Plus, NO_CODE_GROUP), None);
     // The comma of the other disparity is a character, and a code violation here.
@@ -83,9 +86,14 @@ fn the_disparity_after_four_five_and_six_ones(rt: HostRuntime) -> Result<(), Fai
 fn an_empty_frame_begins_7c_25_9a(rt: HostRuntime) -> Result<(), Fail> {
     let (first, rd) = encode(Rd::Minus, Char::Comma);
     let (second, rd) = encode(rd, Char::Octet(0x50));
-    let (third, _) = encode(rd, Char::Octet(0));
-    let packed = first.bits as u32 | (second.bits as u32) << 10 | (third.bits as u32) << 20;
+    let (third, rd) = encode(rd, Char::Octet(0));
+    let (fourth, _) = encode(rd, Char::Octet(0));
+    let symbols = [first, second, third, fourth];
+    let octets = five_octets(symbols);
     // The lowest octet is packed first.
-    assert_eq!(rt; packed & 0xff_ffff, 0x9a_25_7c);
+    assert_eq!(rt; octets[0], 0x7c);
+    assert_eq!(rt; octets[1], 0x25);
+    assert_eq!(rt; octets[2], 0x9a);
+    assert_eq!(rt; four_symbols(&octets, 0), symbols);
     Ok(())
 }

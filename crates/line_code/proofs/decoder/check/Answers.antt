@@ -1,22 +1,30 @@
-use Rattle.std.proofs.Common.{refl, sym, ◌∙◌}
+use Rattle.std.proofs.Common.{refl, sym, ◌∙◌, eq-eqb}
+use Rattle.std.proofs.lemmas.Bool.{ne_eqb}
 use Rattle.line_code.proofs.DecodeTable.{Spells-entry, IsCheckOf-entry, IsCheckOf-none, not_spelled}
+use Rattle.line_code.proofs.Spelling.{checked}
 use Rattle.line_code.proofs.decoder.check.Goals as goal
 
-pub returns-then-is_spelled_at-clause-spelled : goal.returns-then-is_spelled_at-clause-spelled
-returns-then-is_spelled_at-clause-spelled c =
-    rw (c.character_of_entry.ensures, c.disparity_of_entry.ensures)
-    (IsCheckOf-entry c.args.rd c.args.sym.bits c.args.sym.ten_bits (sym c.is_spelled_at.ensures ∙ c.if-is_spelled_at.true))
+pub returns-then-violations_of-eq0-clause-spelled : goal.returns-then-violations_of-eq0-clause-spelled
+returns-then-violations_of-eq0-clause-spelled c =
+    rw (c.character_of_entry.ensures, c.disparity_past.ensures)
+    (IsCheckOf-entry c.args.rd c.args.sym.bits c.args.sym.ten_bits (eq-eqb _ 0 (sym c.violations_of.ensures.violations ∙ c.if-violations_of-eq0.true)))
 
-pub returns-then-is_spelled_at-clause-none : goal.returns-then-is_spelled_at-clause-none
-returns-then-is_spelled_at-clause-none c =
-    let spelled = Spells-entry c.args.rd c.args.sym.bits c.args.sym.ten_bits (sym c.is_spelled_at.ensures ∙ c.if-is_spelled_at.true) in
+pub returns-then-violations_of-eq0-clause-none : goal.returns-then-violations_of-eq0-clause-none
+returns-then-violations_of-eq0-clause-none c =
+    let spelled = Spells-entry c.args.rd c.args.sym.bits c.args.sym.ten_bits (eq-eqb _ 0 (sym c.violations_of.ensures.violations ∙ c.if-violations_of-eq0.true)) in
     (λ e. cc, λ none. absurd (none _ _ spelled))
 
-pub returns-else-is_spelled_at-clause-spelled : goal.returns-else-is_spelled_at-clause-spelled
-returns-else-is_spelled_at-clause-spelled c =
-    IsCheckOf-none c.args.rd c.args.sym.bits
-    (not_spelled c.args.rd c.args.sym.bits (sym c.is_spelled_at.ensures ∙ c.if-is_spelled_at.false))
+pub returns-then-violations_of-eq0-clause-found : goal.returns-then-violations_of-eq0-clause-found
+returns-then-violations_of-eq0-clause-found c = checked c.args.rd c.args.sym.bits _ (returns-then-violations_of-eq0-clause-spelled c)
 
-pub returns-else-is_spelled_at-clause-none : goal.returns-else-is_spelled_at-clause-none
-returns-else-is_spelled_at-clause-none c =
-    (λ e. not_spelled c.args.rd c.args.sym.bits (sym c.is_spelled_at.ensures ∙ c.if-is_spelled_at.false), λ none. refl)
+pub returns-else-violations_of-eq0-clause-spelled : goal.returns-else-violations_of-eq0-clause-spelled
+returns-else-violations_of-eq0-clause-spelled c =
+    IsCheckOf-none c.args.rd c.args.sym.bits
+    (not_spelled c.args.rd c.args.sym.bits (ne_eqb _ 0 (λ e. c.if-violations_of-eq0.false (c.violations_of.ensures.violations ∙ e))))
+
+pub returns-else-violations_of-eq0-clause-none : goal.returns-else-violations_of-eq0-clause-none
+returns-else-violations_of-eq0-clause-none c =
+    (λ e. not_spelled c.args.rd c.args.sym.bits (ne_eqb _ 0 (λ e. c.if-violations_of-eq0.false (c.violations_of.ensures.violations ∙ e))), λ none. refl)
+
+pub returns-else-violations_of-eq0-clause-found : goal.returns-else-violations_of-eq0-clause-found
+returns-else-violations_of-eq0-clause-found c = checked c.args.rd c.args.sym.bits _ (returns-else-violations_of-eq0-clause-spelled c)
