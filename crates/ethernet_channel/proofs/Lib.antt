@@ -14,4 +14,5 @@ pub mod Prefixes
 pub mod WrittenGroups
 pub mod WrittenFrames
 pub mod Runs
+pub mod Idle
 pub mod Chunks

@@ -25,7 +25,7 @@ StandsFor-run k bits (bit ∷ more) h =
     subst (StandsFor (run k (bit ∷ more))) (append_assoc bits (bit ∷ []) more)
     (StandsFor-run (takes k bit).kept (bits ++ bit ∷ []) more (StandsFor-push k bits bit h).kept)
 
-found_after-longer : (bits more : List Bool) → found_after bits more ≡ (longer bits more).found
+pub found_after-longer : (bits more : List Bool) → found_after bits more ≡ (longer bits more).found
 found_after-longer bits more =
     ap (drop (length bits)) (longer bits more).whole
     ∙ drop_at (events_at bits) (longer bits more).found (length bits) (length-events_at bits)

@@ -25,6 +25,11 @@ const RECENT: u16 = 1 << 10;
 /// The numbers of the five bits of a group.
 const GROUP: u16 = 1 << 5;
 
+/// An octet of 1s, as the channel has between frames.
+const IDLE: u8 = 0xff;
+/// Ten 1s.
+const IDLE_BITS: u16 = 0x3ff;
+
 /// Where a reader is within a frame.
 #[derive(Clone, Copy, Debug, PartialEq, Eq)]
 pub(crate) enum Step {
@@ -135,6 +140,9 @@ impl FastReader {
         ensures kept { self.new ≡ run self.old (octet_bits octet) }
     {
         if self.step == Step::Hunting {
+            if octet == IDLE && self.recent == IDLE_BITS {
+                return None;
+            }
             self.hunt_octet(octet)
         } else {
             self.take_groups(reversed(octet))

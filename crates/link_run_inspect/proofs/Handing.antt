@@ -46,33 +46,10 @@ breaks_behind stands line n a b rest c0 c1 h0 h1 s0 s1 s2 first breaks bits s =
     subst (λ text. AppendsFront text s0 s2)
     (append_assoc h0 (bit_lines line n bits (a ++ b)) (bit_lines line n (bits ++ (a ++ b)) rest) ∙ ap (λ text. h0 ++ text) (sym (bit_lines-append line n bits (a ++ b) rest))) more
 
--- ---- one bit
-
-pub hands_quiet : {C : Type 0} (stands : C → List Bool → Type 0) (line : ℕ → List Bool → List ℕ) (n : ℕ) (bit : Bool) (c0 c1 : C) (hand : List ℕ) (sink : Taken)
-    → ((bits : List Bool) → stands c0 bits → stands c1 (bits ++ bit ∷ []) × (line n (bits ++ bit ∷ []) ≡ []))
-    → HandsIn stands line n (bit ∷ []) c0 c1 hand sink hand sink
-unfolding bit_lines
-hands_quiet stands line n bit c0 c1 hand sink h bits s =
-    let one = h bits s in
-    (one.0, subst (λ text. Gathers (text ++ []) hand sink hand sink) (sym one.1) (gathers_none hand sink))
-
-pub hands_line : {C : Type 0} (stands : C → List Bool → Type 0) (line : ℕ → List Bool → List ℕ) (n : ℕ) (bit : Bool) (c0 c1 : C) (h0 h1 h2 : List ℕ) (s0 s1 : Taken)
-    → Gathers [] h0 s0 h1 s1
-    → ((bits : List Bool) → stands c0 bits → stands c1 (bits ++ bit ∷ []) × (h2 ≡ h1 ++ line n (bits ++ bit ∷ [])))
-    → HandsIn stands line n (bit ∷ []) c0 c1 h0 s0 h2 s1
-unfolding bit_lines
-hands_line stands line n bit c0 c1 h0 h1 h2 s0 s1 room h bits s =
-    let one = h bits s in
-    let text = line n (bits ++ bit ∷ []) in
-    (one.0, subst (λ t. Gathers t h0 s0 h2 s1) (sym (append-nil text)) (gathers_then [] text h0 h1 h2 s0 s1 s1 room (gathers_put text h1 h2 s1 one.1)))
-
 -- ---- in a loop
 
 pub more_bits : (bits : List Bool) (k : ℕ) → k < length bits → take k bits ++ get_or bits k false ∷ [] ≡ take (k + 1) bits
 more_bits bits k h = sym (take_more bits k false h)
-
-pub all_bits : (bits : List Bool) (k : ℕ) → k < length bits → take k bits ++ get_or bits k false ∷ [] ++ drop (k + 1) bits ≡ bits
-all_bits bits k h = ap (λ front. front ++ drop (k + 1) bits) (more_bits bits k h) ∙ take-append-drop (k + 1) bits
 
 pub more_octets : (octets : List ℕ) (k : ℕ) → k < length octets → bits_of (take k octets) ++ octet_bits (get_or octets k 0) ≡ bits_of (take (k + 1) octets)
 more_octets octets k h =

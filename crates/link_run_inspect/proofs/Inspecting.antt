@@ -11,7 +11,7 @@ use Rattle.link_run_inspect.specs.Receives.{Receives}
 use Rattle.link_run_inspect.specs.Managed.{Managed, after_hyperframe, after_frame, managed_after, managed}
 use Rattle.link_run_inspect.specs.Events.{followed_text}
 use Rattle.link_run_inspect.specs.Inspect.{frame_text}
-use Rattle.link_run_inspect.proofs.Spelling.{no_some}
+use Rattle.line_code.proofs.Spelling.{no_some}
 use Rattle.link_run_inspect.proofs.Receiving.{ends_true}
 
 -- ---- what the channels were handed

@@ -1,8 +1,7 @@
-pub mod Spelling
-pub mod Packed
 pub mod Pushes
 pub mod Receiving
 pub mod Handing
+pub mod ChannelLines
 pub mod Octets
-pub mod Digits
+pub mod FewDigits
 pub mod Inspecting

@@ -11,18 +11,18 @@ use Rattle.hyperframe.specs.Locks.{Sync, sync_of, sync_x, sync_state, hunting}
 use Rattle.hyperframe.specs.Acquires.{next, next_in, state_without}
 use Rattle.hyperframe.specs.Loss.{Counted, violations_in as violations_of}
 use Rattle.hyperframe.proofs.SyncSteps.{sync_of-push}
-use Rattle.link_run_inspect.proofs.Spelling.{no_some}
-use Rattle.link_run_inspect.specs.Symbols.{violations_in, disparity_past}
+use Rattle.line_code.proofs.Spelling.{no_some}
+use Rattle.line_code.specs.Decoded.{violations_in, disparity_along}
 use Rattle.link_run_inspect.specs.Frames.{has_comma, commas, disparity_after, is_first, counted_from, counted, last, control_word, control_words, violations_of_last, place_at}
 
 pub commas-push : (frames : List (List ℕ)) (frame : List ℕ) → commas (frames ++ frame ∷ []) ≡ commas frames ++ has_comma frame ∷ []
 commas-push [] frame = refl
 commas-push (first ∷ frames) frame = ap (λ cs. has_comma first ∷ cs) (commas-push frames frame)
 
-pub disparity_after-push : (rd : Rd) (frames : List (List ℕ)) (frame : List ℕ) → disparity_after rd (frames ++ frame ∷ []) ≡ disparity_past (disparity_after rd frames) frame
+pub disparity_after-push : (rd : Rd) (frames : List (List ℕ)) (frame : List ℕ) → disparity_after rd (frames ++ frame ∷ []) ≡ disparity_along (disparity_after rd frames) frame
 unfolding disparity_after
 disparity_after-push rd [] frame = refl
-disparity_after-push rd (first ∷ frames) frame = disparity_after-push (disparity_past rd first) frames frame
+disparity_after-push rd (first ∷ frames) frame = disparity_after-push (disparity_along rd first) frames frame
 
 -- the count of the last frame
 unfoldable pub count_of : List Bool → Rd → List ℕ → Counted
@@ -35,8 +35,8 @@ counted_from-push before rd [] frame = refl
 counted_from-push before rd (first ∷ frames) frame =
     let now = before ++ has_comma first ∷ [] in
     let one : Counted = record { first = is_first (sync_x now); violations = violations_in rd first } in
-    ap (λ counts. one ∷ counts) (counted_from-push now (disparity_past rd first) frames frame)
-    ∙ ap (λ all. one ∷ counted_from now (disparity_past rd first) frames ++ count_of all (disparity_after (disparity_past rd first) frames) frame ∷ [])
+    ap (λ counts. one ∷ counts) (counted_from-push now (disparity_along rd first) frames frame)
+    ∙ ap (λ all. one ∷ counted_from now (disparity_along rd first) frames ++ count_of all (disparity_after (disparity_along rd first) frames) frame ∷ [])
     (append_assoc before (has_comma first ∷ []) (commas (frames ++ frame ∷ [])))
 
 pub counted-push : (frames : List (List ℕ)) (frame : List ℕ)
@@ -46,7 +46,7 @@ counted-push frames frame = counted_from-push [] Minus frames frame
 counted_from-length : (before : List Bool) (rd : Rd) (frames : List (List ℕ)) → length (counted_from before rd frames) ≡ length frames
 unfolding counted_from
 counted_from-length before rd [] = refl
-counted_from-length before rd (first ∷ frames) = ap suc (counted_from-length (before ++ has_comma first ∷ []) (disparity_past rd first) frames)
+counted_from-length before rd (first ∷ frames) = ap suc (counted_from-length (before ++ has_comma first ∷ []) (disparity_along rd first) frames)
 
 pub violations-push : (frames : List (List ℕ)) (frame : List ℕ)
     → violations_of (counted (frames ++ frame ∷ [])) ≡ violations_of (counted frames) + violations_in (disparity_after Minus frames) frame

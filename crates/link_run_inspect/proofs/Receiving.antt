@@ -18,11 +18,11 @@ use Rattle.control_words.specs.declared.announce.BadControl.{BadControl}
 use Rattle.control_words.specs.Reading.{announced, numbers}
 use Rattle.link_run_inspect.specs.declared.changes.Hyperframe.{Hyperframe}
 use Rattle.link_run_inspect.specs.declared.reception.Reception.{Reception}
-use Rattle.link_run_inspect.specs.Symbols.{violations_in, disparity_past}
+use Rattle.line_code.specs.Decoded.{violations_in, disparity_along}
 use Rattle.link_run_inspect.specs.Frames.{has_comma, commas, counted, disparity_after, is_first, control_word, control_words, violations_of_last, state_at, place_at, is_lost_at, ends_in, ends_hyperframe}
 use Rattle.link_run_inspect.specs.Changes.{hyperframe_of, hyperframe_at}
 use Rattle.link_run_inspect.specs.Receives.{Receives}
-use Rattle.link_run_inspect.proofs.Spelling.{no_some}
+use Rattle.line_code.proofs.Spelling.{no_some}
 use Rattle.link_run_inspect.proofs.Pushes.{commas-push, disparity_after-push, count_of, counted-push, violations-push, control_words-push, control_words-zero, violations_of_last-push, violations_of_last-zero, place-before}
 
 -- ---- the hyperframe in hand
@@ -57,7 +57,7 @@ joined before word after n e =
 pub record Takes (a b : Reception) (frames : List (List ℕ)) (frame : List ℕ) (x : Option ℕ) (word : List ℕ) (more : ℕ) : Type 0 where
   pub width : b.width ≡ a.width
   pub number : b.number ≡ a.number + 1
-  pub disparity : b.disparity ≡ disparity_past a.disparity frame
+  pub disparity : b.disparity ≡ disparity_along a.disparity frame
   pub counts : more ≡ violations_in a.disparity frame
   pub violations : b.violations ≡ a.violations + more
   pub acquire : Acquires b.acquire (commas frames ++ has_comma frame ∷ [])
@@ -97,7 +97,7 @@ Receives-push a b frames frame x word violations t h =
     ∙ ap (λ n. counted frames ++ count (is_first (place_at all)) n ∷ []) v ∙ sym (counted-push frames frame) in
     record {
       number = omega (arith, t.number, h.number, length_push frames frame);
-      disparity = t.disparity ∙ ap (λ rd. disparity_past rd frame) h.disparity ∙ sym (disparity_after-push Minus frames frame);
+      disparity = t.disparity ∙ ap (λ rd. disparity_along rd frame) h.disparity ∙ sym (disparity_after-push Minus frames frame);
       violations = omega (arith, t.violations, h.violations, v, violations-push frames frame);
       acquire = subst (λ c. Acquires b.acquire c) (sym cs) t.acquire;
       state = t.state ∙ ap sync_state (sym cs);

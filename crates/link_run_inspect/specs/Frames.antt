@@ -7,7 +7,7 @@ use Rattle.hyperframe.specs.declared.synchronization.SyncState.{SyncState}
 use Rattle.hyperframe.specs.declared.synchronization.SyncState.TheVariants.{Hunting, Found, Held, Lost}
 use Rattle.hyperframe.specs.Locks.{sync_state, sync_x}
 use Rattle.hyperframe.specs.Loss.{Counted, violations_in as violations_of, is_lost}
-use Rattle.link_run_inspect.specs.Symbols.{violations_in, disparity_past, octet_of, is_comma}
+use Rattle.line_code.specs.Decoded.{violations_in, disparity_along, octet_of, is_comma}
 
 -- whether a frame's first character is the comma
 unfoldable pub has_comma : List ℕ → Bool
@@ -19,7 +19,7 @@ commas frames = map has_comma frames
 -- the disparity after frames
 unfoldable pub disparity_after : Rd → List (List ℕ) → Rd
 disparity_after rd [] = rd
-disparity_after rd (frame ∷ frames) = disparity_after (disparity_past rd frame) frames
+disparity_after rd (frame ∷ frames) = disparity_after (disparity_along rd frame) frames
 
 abbrev pub is_first : Option ℕ → Bool
 is_first None = false
@@ -31,7 +31,7 @@ unfoldable pub counted_from : List Bool → Rd → List (List ℕ) → List Coun
 counted_from before rd [] = []
 counted_from before rd (frame ∷ frames) =
     let now = before ++ has_comma frame ∷ [] in
-    record { first = is_first (sync_x now); violations = violations_in rd frame } ∷ counted_from now (disparity_past rd frame) frames
+    record { first = is_first (sync_x now); violations = violations_in rd frame } ∷ counted_from now (disparity_along rd frame) frames
 
 abbrev pub counted : List (List ℕ) → List Counted
 counted frames = counted_from [] Minus frames

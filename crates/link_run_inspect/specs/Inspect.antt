@@ -8,7 +8,7 @@ use Rattle.link_text.specs.Printed.{ended}
 use Rattle.link_run_feed.specs.declared.reason.Reason.{Reason}
 use Rattle.link_run_feed.specs.declared.reason.Reason.TheVariants.{Hex, Count}
 use Rattle.link_run_feed.specs.Feed.{LineForm, FeedForm}
-use Rattle.link_run_inspect.specs.Symbols.{symbols_of}
+use Rattle.line_code.specs.Packed.{symbols_in}
 use Rattle.link_run_inspect.specs.Frames.{control_words, counted}
 use Rattle.link_run_inspect.specs.Changes.{changes_of, changes_text}
 use Rattle.link_run_inspect.specs.Managed.{managed}
@@ -62,7 +62,7 @@ with_frame s frame = record s { frames = s.frames ++ frame ∷ [] }
 
 abbrev pub with_octets : Inspected → Option (List ℕ) → Result (Inspected × List ℕ) Reason
 with_octets s None = Err Hex
-with_octets s (Some octets) = Ok (with_frame s (symbols_of octets), frame_text s.width s.frames (symbols_of octets))
+with_octets s (Some octets) = Ok (with_frame s (symbols_in octets), frame_text s.width s.frames (symbols_in octets))
 
 abbrev pub frame_line : Inspected → List ℕ → Result (Inspected × List ℕ) Reason
 frame_line s line = if length s.frames == s.due then Err Count else with_octets s (frame_octets s.width line)

@@ -1,4 +1,3 @@
-pub mod Symbols
 pub mod Frames
 pub mod Changes
 pub mod Receives

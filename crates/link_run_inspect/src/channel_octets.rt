@@ -1,26 +1,57 @@
 //! The octets of the management channels in the control words of a hyperframe.
 
-ghost use Rattle.std.specs.Prelude.{◌≡◌, ◌+◌, ◌*◌, ◌<◌, ◌≤◌, ◌++◌, [], ◌∷◌, if◌then◌else◌, length};
+ghost use Rattle.std.specs.Prelude.{◌≡◌, ℕ, ◌+◌, ◌*◌, ◌<◌, ◌≤◌, nat_lt, ◌++◌, length, take, drop};
 ghost use Rattle.link_base.specs.WordSize.{IsWordSize};
 ghost use Rattle.control_words.specs.Announcement.{IsWithinTable};
 ghost use Rattle.control_words.specs.Places.{is_slow_place, is_fast_place};
 ghost use Rattle.link_run_inspect.specs.Managed.{octets_in_word, slow_octets, fast_octets};
 
 use arrayvec::ArrayVec;
-use control_words::{Announce, fast_octet, slow_octet};
+use control_words::{Announce, fast_octet, managed_len};
 
 /// The octets of a channel in a hyperframe, at most all octets of its control words.
 pub(crate) type Octets = ArrayVec<u8, 4096>;
 
-/// Appends an octet where it stands at a place of the channel.
-fn put_octet(is_place: bool, octet: u8, out: &mut Octets)
-    requires { length out.old.items < 4096 }
-    ensures octets { out.new.items ≡ out.old.items ++ (if is_place then octet ∷ [] else []) }
-    ensures few { length out.new.items ≤ length out.old.items + 1 }
+/// Appends the first octets of word `x`.
+fn put_front<const Y: usize>(x: usize, count: usize, control: &[u8], out: &mut Octets)
+    requires size { IsWordSize Y }
+    requires whole { length control.now ≡ 256 * Y }
+    requires place { x < 256 }
+    requires few { count ≤ Y }
+    requires room { length out.old.items ≤ Y * x }
+    ensures octets { out.new.items ≡ out.old.items ++ take count (drop (Y * x) control.now) }
+    ensures few { length out.new.items ≤ Y * (x + 1) }
 {
-    if is_place {
-        out.push(octet);
+    if count == 0 {
+        return;
     }
+    let at = Y * x;
+    out.try_extend_from_slice(&control[at..at + count]).unwrap();
+}
+
+/// How many octets of word `x` belong to the slow channel. They are its first.
+fn slow_len<const Y: usize>(x: usize, a: Announce) -> usize
+    requires size { IsWordSize Y }
+    requires within { IsWithinTable Y a }
+    requires place { x < 256 }
+    ensures fits { result ≤ Y }
+    ensures first { (y : ℕ) → y < Y → is_slow_place a.hdlc x y ≡ nat_lt y result }
+{
+    if fast_octet::<Y>(x as u8, 0, a) {
+        return 0;
+    }
+    managed_len::<Y>(x as u8, a)
+}
+
+/// How many octets of word `x` belong to the fast channel: all or none.
+fn fast_len<const Y: usize>(x: usize, a: Announce) -> usize
+    requires size { IsWordSize Y }
+    requires within { IsWithinTable Y a }
+    requires place { x < 256 }
+    ensures fits { result ≤ Y }
+    ensures first { (y : ℕ) → y < Y → is_fast_place a.pointer x ≡ nat_lt y result }
+{
+    if fast_octet::<Y>(x as u8, 0, a) { Y } else { 0 }
 }
 
 /// Appends the octets of the slow channel in word `x`.
@@ -33,9 +64,7 @@ fn put_slow_word<const Y: usize>(x: usize, control: &[u8], a: Announce, out: &mu
     ensures octets { out.new.items ≡ out.old.items ++ octets_in_word (is_slow_place a.hdlc) Y control.now x }
     ensures few { length out.new.items ≤ Y * (x + 1) }
 {
-    for y in 0..Y {
-        put_octet(slow_octet::<Y>(x as u8, y, a), control[Y * x + y], out);
-    }
+    put_front::<Y>(x, slow_len::<Y>(x, a), control, out);
 }
 
 /// The octets of the slow channel.
@@ -61,9 +90,7 @@ fn put_fast_word<const Y: usize>(x: usize, control: &[u8], a: Announce, out: &mu
     ensures octets { out.new.items ≡ out.old.items ++ octets_in_word (λ x y. is_fast_place a.pointer x) Y control.now x }
     ensures few { length out.new.items ≤ Y * (x + 1) }
 {
-    for y in 0..Y {
-        put_octet(fast_octet::<Y>(x as u8, y, a), control[Y * x + y], out);
-    }
+    put_front::<Y>(x, fast_len::<Y>(x, a), control, out);
 }
 
 /// The octets of the fast channel.

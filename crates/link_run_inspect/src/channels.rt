@@ -1,13 +1,15 @@
 //! The two management channels, as far as the line's frames hand bits to their readers.
 
-ghost use Rattle.std.specs.Prelude.{◌≡◌, ◌+◌, ◌*◌, ◌≤◌, ◌++◌, ◌∷◌, [], ℕ, Bool, List, length, Option, Some, None, IfSome, IfNone, IfOk, OnOk, OnErr};
+ghost use Rattle.std.specs.Prelude.{◌≡◌, ◌+◌, ◌*◌, ◌<◌, ◌≤◌, ℕ, Bool, List, length, take, drop, IfOk, OnOk, OnErr};
 ghost use Rattle.std.specs.Option.{ForSome};
 ghost use Rattle.std.specs.Result.{ForOk};
 ghost use Rattle.link_base.specs.Faults.{HasCause};
 ghost use Rattle.link_base.specs.WordSize.{IsWordSize};
 ghost use Rattle.control_words.specs.Announcement.{IsWithinTable};
 ghost use Rattle.hdlc_channel.specs.Bits.{bits_of, octet_bits};
-ghost use Rattle.link_text.specs.Gathered.{Gathers, BreaksOff, text_capacity};
+ghost use Rattle.hdlc_channel.specs.Reader.{StandsFor as SlowStandsFor};
+ghost use Rattle.link_text.specs.Gathered.{Gathers, BreaksOff};
+ghost use Rattle.link_run_inspect.specs.Events.{slow_line};
 ghost use Rattle.link_run_inspect.specs.HandsIn.{HandsIn, BreaksAmong};
 ghost use Rattle.link_run_inspect.specs.Managed.{has_same_channels};
 
@@ -16,154 +18,118 @@ use crate::channel_octets::{Octets, take_fast, take_slow};
 use crate::events::{LINE, put_fast, put_slow};
 use arrayvec::ArrayVec;
 use control_words::Announce;
-use ethernet_channel::{FastEvent, FastReader};
-use hdlc_channel::{SlowEvent, SlowReader};
+use ethernet_channel::FastReader;
+use hdlc_channel::SlowReader;
 use hyperframe::SyncState;
 use link_base::{Failed, NoMemory, Sink};
 use link_text::TextBuffer;
 use std::alloc::Global;
 
-/// A reader that takes the bits of a channel one after another.
+/// A reader that takes the octets of a channel one after another, each from its lowest bit on.
 trait Channel: Drop {
-    /// What a bit completes.
-    type Event: Drop;
-
     /// The reader was handed these bits.
     ghost stands: { Self → List Bool → Type 0 };
-
-    /// What the last of these bits completes.
-    ghost last_event: { List Bool → Option Self.Event };
 
     /// The line about the last of these bits.
     ghost line: { ℕ → List Bool → List ℕ };
 
-    /// Takes the next bit.
-    fn push(&mut self, bit: bool) -> Option<Self::Event>
-        ensures event { (bits : List Bool) → stands self.old bits → result ≡ last_event (bits ++ bit ∷ []) }
-        ensures stands { (bits : List Bool) → stands self.old bits → stands self.new (bits ++ bit ∷ []) };
-
-    /// Appends the line of what the last bit completed.
-    fn put(&self, number: u64, event: Self::Event, text: &mut TextBuffer)
-        requires { length text.old + 4096 ≤ text_capacity }
-        ensures { (bits : List Bool) → stands self.now bits → last_event bits ≡ Some event → text.new ≡ text.old ++ line number bits };
-
-    /// A bit that completes nothing has no line.
-    ghost quiet: { (n : ℕ) (bits : List Bool) → last_event bits ≡ None → line n bits ≡ [] };
+    /// Hands in the bits of an octet, and appends the lines of what they complete.
+    fn take<K: Sink>(
+        &mut self,
+        number: u64,
+        octet: u8,
+        text: &mut TextBuffer,
+        out: &mut K,
+    ) -> Result<(), Failed>
+        ensures cause { HasCause (K.taken out.old).faults (K.taken out.new).faults result }
+        ensures hands { OnOk result (HandsIn stands line number (octet_bits octet) self.old self.new text.old (K.taken out.old) text.new (K.taken out.new)) }
+        ensures fails { OnErr result (BreaksAmong stands line number (octet_bits octet) self.old text.old (K.taken out.old) (K.taken out.new)) };
 }
 
 impl Channel for SlowReader {
-    ghost use Rattle.std.specs.Prelude.{◌-◌, length};
     ghost use Rattle.hdlc_channel.specs.Reader.{StandsFor};
-    ghost use Rattle.hdlc_channel.specs.SlowText.{slow_at};
-    ghost use Rattle.link_run_inspect.specs.Events.{slow_line, slow_quiet};
-
-    type Event = SlowEvent;
+    ghost use Rattle.link_run_inspect.specs.Events.{slow_line};
 
     ghost stands = { StandsFor };
 
-    ghost last_event = { λ bits. slow_at bits (length bits - 1) };
-
     ghost line = { slow_line };
 
-    ghost quiet = { slow_quiet };
-
-    fn push(&mut self, bit: bool) -> Option<SlowEvent> {
-        self.push(bit)
-    }
-
-    #[tactic(auto, unfolding(crate::specs::Events::slow_line))]
-    fn put(&self, number: u64, event: SlowEvent, text: &mut TextBuffer) {
-        put_slow(number, event, self.frame(), text);
+    fn take<K: Sink>(
+        &mut self,
+        number: u64,
+        octet: u8,
+        text: &mut TextBuffer,
+        out: &mut K,
+    ) -> Result<(), Failed> {
+        let mut from = 0;
+        while from < 8 {
+            match push_slow(self, number, octet, from, text, out) {
+                Ok(bits) => from += bits,
+                Err(failed) => return Err(failed),
+            }
+        }
+        Ok(())
     }
 }
 
 impl Channel for FastReader {
     ghost use Rattle.ethernet_channel.specs.Keeps.{StandsFor};
-    ghost use Rattle.ethernet_channel.specs.Events.{event_last};
-    ghost use Rattle.link_run_inspect.specs.Events.{fast_line, fast_quiet};
-
-    type Event = FastEvent;
+    ghost use Rattle.link_run_inspect.specs.Events.{fast_line};
 
     ghost stands = { StandsFor };
 
-    ghost last_event = { event_last };
-
     ghost line = { fast_line };
 
-    ghost quiet = { fast_quiet };
-
-    fn push(&mut self, bit: bool) -> Option<FastEvent> {
-        self.push(bit)
-    }
-
-    #[tactic(auto, unfolding(crate::specs::Events::fast_line))]
-    fn put(&self, number: u64, event: FastEvent, text: &mut TextBuffer) {
-        put_fast(number, event, self.frame(), text);
+    fn take<K: Sink>(
+        &mut self,
+        number: u64,
+        octet: u8,
+        text: &mut TextBuffer,
+        out: &mut K,
+    ) -> Result<(), Failed> {
+        let event = match self.push_octet(octet) {
+            Some(event) => event,
+            None => return Ok(()),
+        };
+        match text.make_room(LINE, out) {
+            Ok(()) => {
+                put_fast(number, event, self.frame(), text);
+                Ok(())
+            }
+            Err(failed) => Err(failed),
+        }
     }
 }
 
-/// The bits of an octet, the lowest first.
-#[tactic(auto, unfolding(hdlc_channel::specs::Bits::low_bits))]
-fn octet_bits(octet: u8) -> [bool; 8]
-    ensures { result ≡ octet_bits octet }
-{
-    let high = octet / 2 / 2 / 2 / 2;
-    [
-        octet % 2 == 1,
-        octet / 2 % 2 == 1,
-        octet / 2 / 2 % 2 == 1,
-        octet / 2 / 2 / 2 % 2 == 1,
-        high % 2 == 1,
-        high / 2 % 2 == 1,
-        high / 2 / 2 % 2 == 1,
-        high / 2 / 2 / 2 % 2 == 1,
-    ]
-}
-
-/// Hands in a bit, and appends the line of what it completes.
-fn push_bit<C: Channel, K: Sink>(
-    channel: &mut C,
+/// Hands in the bits of an octet from bit `from` on, up to the first that completes something, and appends the line of what it
+/// completes. Says how many bits they are.
+fn push_slow<K: Sink>(
+    reader: &mut SlowReader,
     number: u64,
-    bit: bool,
+    octet: u8,
+    from: u32,
     text: &mut TextBuffer,
     out: &mut K,
-) -> Result<(), Failed>
+) -> Result<u32, Failed>
+    requires { from < 8 }
     ensures cause { HasCause (K.taken out.old).faults (K.taken out.new).faults result }
-    ensures hands { OnOk result (HandsIn C.stands C.line number (bit ∷ []) channel.old channel.new text.old (K.taken out.old) text.new (K.taken out.new)) }
-    ensures fails { OnErr result (BreaksAmong C.stands C.line number (bit ∷ []) channel.old text.old (K.taken out.old) (K.taken out.new)) }
+    ensures some { IfOk result (λ bits. 1 ≤ bits) }
+    ensures within { IfOk result (λ bits. from + bits ≤ 8) }
+    ensures hands { IfOk result (λ bits. HandsIn SlowStandsFor slow_line number (take bits (drop from (octet_bits octet))) reader.old reader.new text.old (K.taken out.old) text.new (K.taken out.new)) }
+    ensures fails { OnErr result (BreaksAmong SlowStandsFor slow_line number (drop from (octet_bits octet)) reader.old text.old (K.taken out.old) (K.taken out.new)) }
 {
-    let event = match channel.push(bit) {
+    let taken = reader.push_octet(octet, from);
+    let event = match taken.event {
         Some(event) => event,
-        None => return Ok(()),
+        None => return Ok(taken.bits),
     };
     match text.make_room(LINE, out) {
         Ok(()) => {
-            channel.put(number, event, text);
-            Ok(())
+            put_slow(number, event, reader.frame(), text);
+            Ok(taken.bits)
         }
         Err(failed) => Err(failed),
     }
-}
-
-/// Hands in bits, and appends the lines of what they complete.
-fn push_bits<C: Channel, K: Sink>(
-    channel: &mut C,
-    number: u64,
-    bits: &[bool],
-    text: &mut TextBuffer,
-    out: &mut K,
-) -> Result<(), Failed>
-    ensures cause { HasCause (K.taken out.old).faults (K.taken out.new).faults result }
-    ensures hands { OnOk result (HandsIn C.stands C.line number bits.now channel.old channel.new text.old (K.taken out.old) text.new (K.taken out.new)) }
-    ensures fails { OnErr result (BreaksAmong C.stands C.line number bits.now channel.old text.old (K.taken out.old) (K.taken out.new)) }
-{
-    for bit in bits {
-        match push_bit(channel, number, *bit, text, out) {
-            Ok(()) => {}
-            Err(failed) => return Err(failed),
-        }
-    }
-    Ok(())
 }
 
 /// Hands in octets, each from its lowest bit on, and appends the lines of what they complete.
@@ -179,8 +145,7 @@ fn push_octets<C: Channel, K: Sink>(
     ensures fails { OnErr result (BreaksAmong C.stands C.line number (bits_of octets.now) channel.old text.old (K.taken out.old) (K.taken out.new)) }
 {
     for octet in octets {
-        let bits = octet_bits(*octet);
-        match push_bits(channel, number, &bits, text, out) {
+        match channel.take(number, *octet, text, out) {
             Ok(()) => {}
             Err(failed) => return Err(failed),
         }

@@ -1,13 +1,13 @@
 //! The feed of a line: a header, and a line of symbols for each basic frame.
 
-ghost use Rattle.std.specs.Prelude.{◌≡◌, ◌+◌, ◌-◌, ◌*◌, ◌<◌, ◌≤◌, ◌==◌, ◌++◌, ◌∷◌, [], ℕ, List, length, take, ◌^◌, codes, IfOk, IfSome, IfNone, OnOk, OnErr, Some, None, decimal as decimal_text};
+ghost use Rattle.std.specs.Prelude.{◌≡◌, ◌+◌, ◌-◌, ◌*◌, ◌/◌, ◌%◌, ◌<◌, ◌≤◌, ◌==◌, ◌++◌, ◌∷◌, [], ℕ, List, length, take, ◌^◌, codes, IfOk, IfSome, IfNone, OnOk, OnErr, Some, None, decimal as decimal_text};
 ghost use Rattle.link_base.specs.Faults.{HasCause};
 ghost use Rattle.link_text.specs.Decimals.{decimal_value};
 ghost use Rattle.link_text.specs.Hexadecimal.{spelled_octets};
 ghost use Rattle.link_text.specs.Gathered.{Gathers, BreaksOff, text_capacity};
 ghost use Rattle.link_text.specs.Printed.{ended};
 ghost use Rattle.link_base.specs.WordSize.{IsWordSize};
-ghost use Rattle.link_run_inspect.specs.Symbols.{symbols_of};
+ghost use Rattle.line_code.specs.Packed.{symbols_in};
 ghost use Rattle.link_run_inspect.specs.Changes.{changes_text};
 ghost use Rattle.link_run_inspect.specs.Inspect.{Inspected, opened, opened_by, word_size, frame_octets, frame_text, frame_line, with_frame};
 
@@ -24,6 +24,9 @@ const LIMIT: u64 = 2_097_152;
 
 /// How many octets the lines of what a frame changes have at most.
 const LINES: usize = 512;
+
+/// The digits from which on they are read by lanes.
+const LANES: usize = 64;
 
 /// The octets of the symbols of the longest frame.
 const LONGEST: usize = 320;
@@ -86,6 +89,24 @@ fn word_size(option: u64) -> Option<usize>
     }
 }
 
+/// Puts the octets of digits that are too few for lanes to the front of a buffer, and says how many they are: they are read with
+/// digits 0 behind them. None where they are not digits alone.
+fn few_octets(digits: &[u8], buffer: &mut [u8; LONGEST]) -> Option<usize>
+    requires some { 0 < length digits.now }
+    requires few { length digits.now < 64 }
+    requires pairs { length digits.now % 2 ≡ 0 }
+    ensures some { IfSome result (λ n. spelled_octets digits.now ≡ Some (take n buffer.new)) }
+    ensures count { IfSome result (λ n. n ≡ length digits.now / 2) }
+    ensures none { IfNone result (spelled_octets digits.now ≡ None) }
+{
+    let mut filled = [b'0'; LANES];
+    filled[..digits.len()].copy_from_slice(digits);
+    match octets(&filled, buffer) {
+        Some(_) => Some(digits.len() / 2),
+        None => None,
+    }
+}
+
 /// Puts the octets of a frame's symbols to the front of a buffer, and says how many they are. None where the line has not two
 /// digits for each.
 fn frame_octets(width: usize, line: &[u8], buffer: &mut [u8; LONGEST]) -> Option<usize>
@@ -96,6 +117,9 @@ fn frame_octets(width: usize, line: &[u8], buffer: &mut [u8; LONGEST]) -> Option
 {
     if line.len() != 40 * width {
         return None;
+    }
+    if line.len() < LANES {
+        return few_octets(line, buffer);
     }
     match octets(line, buffer) {
         Some(count) => Some(count),
@@ -150,11 +174,11 @@ impl Inspector {
         requires frame { length octets.now ≡ 20 * self.old.reception.width }
         requires room { self.old.reception.number < self.old.due }
         ensures cause { HasCause (K.taken out.old).faults (K.taken out.new).faults result }
-        ensures inspects { OnOk result ((s : Inspected) → Inspects self.old s → Inspects self.new (with_frame s (symbols_of octets.now))) }
+        ensures inspects { OnOk result ((s : Inspected) → Inspects self.old s → Inspects self.new (with_frame s (symbols_in octets.now))) }
         ensures gathers { OnOk result ((s : Inspected) → Inspects self.old s
-            → Gathers (frame_text s.width s.frames (symbols_of octets.now)) text.old (K.taken out.old) text.new (K.taken out.new)) }
+            → Gathers (frame_text s.width s.frames (symbols_in octets.now)) text.old (K.taken out.old) text.new (K.taken out.new)) }
         ensures fails { OnErr result ((s : Inspected) → Inspects self.old s
-            → BreaksOff (frame_text s.width s.frames (symbols_of octets.now)) text.old (K.taken out.old) (K.taken out.new)) }
+            → BreaksOff (frame_text s.width s.frames (symbols_in octets.now)) text.old (K.taken out.old) (K.taken out.new)) }
         ensures fewer { OnOk result ((self.new.reception.number ≡ self.old.reception.number + 1) × (self.new.due ≡ self.old.due)) }
     {
         let changes = self.reception.take(octets);

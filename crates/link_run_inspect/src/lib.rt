@@ -8,7 +8,6 @@ mod events;
 mod inspection;
 mod inspector;
 mod reception;
-mod symbols;
 mod words;
 
 pub use inspection::inspect;

@@ -5,20 +5,21 @@ ghost use Rattle.std.specs.Option.{ForSome};
 ghost use Rattle.std.specs.Result.{ForOk};
 ghost use Rattle.control_words.specs.Announcement.{IsWithinTable};
 ghost use Rattle.link_base.specs.WordSize.{IsWordSize};
-ghost use Rattle.link_run_inspect.specs.Symbols.{symbols_of};
+ghost use Rattle.line_code.specs.Packed.{symbols_in};
 ghost use Rattle.link_run_inspect.specs.Frames.{control_word, is_first, ends_in};
 
 use crate::changes::{Changes, Hyperframe, changed_loss, changed_state};
-use crate::symbols::{is_comma, octet_of, read_symbols, symbol_at};
 use crate::words::{announced, numbers};
 use arrayvec::ArrayVec;
 use hyperframe::{Acquire, Los, SyncState};
-use line_code::Rd;
+use line_code::{Rd, four_octets, is_comma, read_symbols, symbol_at};
 use link_base::NoMemory;
 use std::alloc::Global;
 
 /// Basic frames in a hyperframe.
 const HYPERFRAME: usize = 256;
+/// The octets that have four symbols.
+const GROUP: usize = 5;
 /// The number of the last frame in its hyperframe.
 const LAST_X: u8 = 255;
 
@@ -108,13 +109,15 @@ fn ends_in(state: SyncState, x: Option<u8>) -> bool
 fn control_word(width: usize, octets: &[u8]) -> ArrayVec<u8, 16>
     requires size { IsWordSize width }
     requires frame { length octets.now ≡ 20 * width }
-    ensures word { result.items ≡ control_word width (symbols_of octets.now) }
+    ensures word { result.items ≡ control_word width (symbols_in octets.now) }
     ensures len { length result.items ≡ width }
 {
     let mut word = ArrayVec::new();
-    for y in 0..width {
-        word.push(octet_of(symbol_at(octets, y)));
+    for group in 0..width.div_ceil(4) {
+        let four = four_octets(octets, GROUP * group);
+        word.try_extend_from_slice(&four).unwrap();
     }
+    word.truncate(width);
     word
 }
 
@@ -151,9 +154,9 @@ impl Reception {
         requires frame { length octets.now ≡ 20 * self.old.width }
         requires room { self.old.number < 2097152 }
         ensures changes { (frames : List (List ℕ)) → Receives self.old frames
-            → result ≡ changes_of self.old.width frames (symbols_of octets.now) }
+            → result ≡ changes_of self.old.width frames (symbols_in octets.now) }
         ensures stands { (frames : List (List ℕ)) → Receives self.old frames
-            → Receives self.new (frames ++ symbols_of octets.now ∷ []) }
+            → Receives self.new (frames ++ symbols_in octets.now ∷ []) }
         ensures width { self.new.width ≡ self.old.width }
         ensures number { self.new.number ≡ self.old.number + 1 }
         ensures within { ForSome result.hyperframe (λ h. ForOk h.answer (IsWithinTable self.new.width)) }
@@ -175,7 +178,7 @@ impl Reception {
         requires frame { length octets.now ≡ 20 * self.old.width }
         requires room { self.old.number < 2097152 }
         ensures stands { (frames : List (List ℕ)) → Receives self.old frames
-            → Receives self.new (frames ++ symbols_of octets.now ∷ []) }
+            → Receives self.new (frames ++ symbols_in octets.now ∷ []) }
         ensures width { self.new.width ≡ self.old.width }
         ensures number { self.new.number ≡ self.old.number + 1 }
     {

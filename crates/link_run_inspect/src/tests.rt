@@ -14,6 +14,9 @@ const DAMAGED: &str = "7d196db4d1461b6db4d1461b6db4d1461b6db4d1\n";
 /// A frame of symbols that nothing spells.
 const SILENT: &str = "0000000000000000000000000000000000000000\n";
 
+/// As many digits, without a line feed.
+const DIGITS: &str = "0000000000000000000000000000000000000000";
+
 /// What a call left: its status and the text that was written.
 #[derive(Debug, Drop)]
 struct Outcome {
@@ -97,5 +100,22 @@ fn the_first_bad_line(rt: HostRuntime) -> Result<(), Fail> {
         assert_eq!(rt; outcome.text.as_slice(), text.as_bytes(), "{text}");
         assert_eq!(rt; outcome.status, status, "{text}");
     }
+    Ok(())
+}
+
+#[test]
+fn a_line_of_more_than_4096_octets(rt: HostRuntime) -> Result<(), Fail> {
+    let mut pieces = Vec::new(rt.alloc());
+    pieces.push("line 1 1\n")?;
+    for _ in 0..103 {
+        pieces.push(DIGITS)?;
+    }
+    let outcome = read(rt.alloc(), pieces.as_slice())?;
+    assert_eq!(rt; outcome.text.as_slice(), b"bad 2 long\n".as_slice());
+    let status = Status::FeedBad {
+        line: 2,
+        reason: Reason::Long,
+    };
+    assert_eq!(rt; outcome.status, status);
     Ok(())
 }

@@ -1,17 +1,14 @@
-use Rattle.std.proofs.Common.{ℕ, Bool, List, ◌+◌, ◌++◌, ◌∷◌, [], arith, ap, ◌∙◌}
-use Rattle.std.specs.Prelude.{if◌then◌else◌}
+use Rattle.std.proofs.Common.{ℕ, ◌≡◌, ◌+◌, ◌*◌, ◌≤◌, ◌++◌, length, ap, ◌∙◌, arith}
+use Rattle.std.proofs.Math.Nat.{mul-le-mul_left, mul-add}
 use Rattle.control_words.specs.Places.{is_fast_place}
-use Rattle.control_words.specs.Reading.{control_octet}
-use Rattle.link_run_inspect.proofs.Octets.{more_places}
+use Rattle.link_run_inspect.proofs.Octets.{front_of_word}
 use Rattle.link_run_inspect.proofs.channel_octets.put_fast_word.Goals as goal
 
-pub loop-y-preserved : goal.loop-y-preserved
-loop-y-preserved g c =
-    let octet = control_octet g.row.Y c.args.control.now c.args.x in
-    let f : ℕ → List ℕ = λ y. if is_fast_place c.args.a.pointer c.args.x then octet y ∷ [] else [] in
-    record {
-      octets =
-          more_places f c.args.out.now.items c.loop-y.out.items c.put_octet.new.out.items c.loop-y.y c.loop-y.invariant.octets
-          (c.put_octet.ensures.octets ∙ ap (λ (b : Bool). c.loop-y.out.items ++ (if b then octet c.loop-y.y ∷ [] else [])) c.fast_octet.ensures);
-      few = omega (arith, c.put_octet.ensures.few, c.loop-y.invariant.few);
-    }
+pub returns-clause-octets : goal.returns-clause-octets
+returns-clause-octets g c =
+    let Y = g.row.Y in
+    let x = c.args.x in
+    let below : Y * (x + 1) ≤ Y * 256 = mul-le-mul_left Y (omega arith) in
+    let inside : Y * x + Y ≤ length c.args.control.now = omega (arith, below, mul-add Y x 1, c.requires.whole) in
+    c.put_front.ensures.octets
+    ∙ ap (λ w. c.args.out.now.items ++ w) (front_of_word (λ (i j : ℕ). is_fast_place c.args.a.pointer i) Y c.fast_len.result x c.args.control.now c.fast_len.ensures.fits c.fast_len.ensures.first inside)

@@ -17,11 +17,10 @@ loop-octet-preserved g c =
     let taken = g.K.Sink.taken in record {
       count = c.in-Ok.ensures.cause.by_result ∙ c.loop-octet.invariant.count;
       hands =
-          subst (λ (all : List Bool). HandsIn g.C.Channel.stands g.C.Channel.line c.args.number all c.args.channel.now c.push_bits.new.channel c.args.text.now (taken c.args.out.now) c.push_bits.new.text (taken c.push_bits.new.out))
+          subst (λ (all : List Bool). HandsIn g.C.Channel.stands g.C.Channel.line c.args.number all c.args.channel.now c.take.new.self c.args.text.now (taken c.args.out.now) c.take.new.text (taken c.take.new.out))
           (more_octets octets k c.loop-octet-test.true)
-          (hands_then g.C.Channel.stands g.C.Channel.line c.args.number (bits_of (take k octets)) (octet_bits (get_or octets k 0)) c.args.channel.now c.loop-octet.channel c.push_bits.new.channel
-          c.args.text.now c.loop-octet.text c.push_bits.new.text (taken c.args.out.now) (taken c.loop-octet.out) (taken c.push_bits.new.out) c.loop-octet.invariant.hands (subst (λ (b : List Bool). HandsIn g.C.Channel.stands g.C.Channel.line c.args.number b c.loop-octet.channel c.push_bits.new.channel c.loop-octet.text (taken c.loop-octet.out) c.push_bits.new.text (taken c.push_bits.new.out))
-          c.octet_bits-bits.ensures c.in-Ok.ensures.hands));
+          (hands_then g.C.Channel.stands g.C.Channel.line c.args.number (bits_of (take k octets)) (octet_bits (get_or octets k 0)) c.args.channel.now c.loop-octet.channel c.take.new.self
+          c.args.text.now c.loop-octet.text c.take.new.text (taken c.args.out.now) (taken c.loop-octet.out) (taken c.take.new.out) c.loop-octet.invariant.hands c.in-Ok.ensures.hands);
     }
 
 pub returns-in-Err-clause-fails : goal.returns-in-Err-clause-fails
@@ -29,9 +28,7 @@ returns-in-Err-clause-fails g c =
     let k = c.loop-octet.octet-index in
     let octets = c.args.octets.now in
     let taken = g.K.Sink.taken in
-    subst (λ (all : List Bool). BreaksAmong g.C.Channel.stands g.C.Channel.line c.args.number all c.args.channel.now c.args.text.now (taken c.args.out.now) (taken c.push_bits.new.out))
+    subst (λ (all : List Bool). BreaksAmong g.C.Channel.stands g.C.Channel.line c.args.number all c.args.channel.now c.args.text.now (taken c.args.out.now) (taken c.take.new.out))
     (all_octets octets k c.loop-octet-test.true)
     (breaks_behind g.C.Channel.stands g.C.Channel.line c.args.number (bits_of (take k octets)) (octet_bits (get_or octets k 0)) (bits_of (drop (k + 1) octets)) c.args.channel.now c.loop-octet.channel
-    c.args.text.now c.loop-octet.text (taken c.args.out.now) (taken c.loop-octet.out) (taken c.push_bits.new.out) c.loop-octet.invariant.hands
-    (subst (λ (b : List Bool). BreaksAmong g.C.Channel.stands g.C.Channel.line c.args.number b c.loop-octet.channel c.loop-octet.text (taken c.loop-octet.out) (taken c.push_bits.new.out))
-    c.octet_bits-bits.ensures c.in-Err.ensures.fails))
+    c.args.text.now c.loop-octet.text (taken c.args.out.now) (taken c.loop-octet.out) (taken c.take.new.out) c.loop-octet.invariant.hands c.in-Err.ensures.fails)

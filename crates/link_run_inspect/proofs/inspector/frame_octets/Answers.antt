@@ -1,13 +1,9 @@
 use Rattle.std.proofs.Common.{◌≡◌, ◌*◌, ◌==◌, ◌∙◌, true, false, length, None, eq-eqb}
 use Rattle.std.proofs.lemmas.Bool.{cond-true}
 use Rattle.link_text.specs.Hexadecimal.{spelled_octets}
-use Rattle.link_run_inspect.proofs.Digits.{spelled_octets-none}
 use Rattle.link_run_inspect.proofs.inspector.frame_octets.Goals as goal
-
-not_true : false ≡ true → ⊥
-not_true e = cc
 
 pub returns-in-None-clause-none : goal.returns-in-None-clause-none
 returns-in-None-clause-none c =
     cond-true (length c.args.line.now == 40 * c.args.width) (spelled_octets c.args.line.now) None (eq-eqb (length c.args.line.now) (40 * c.args.width) c.if-line-width.false)
-    ∙ spelled_octets-none c.args.line.now (λ digits. not_true (c.in-None.ensures.found.1 digits))
+    ∙ c.in-None.ensures.none

@@ -1,24 +1,34 @@
-use Rattle.std.proofs.Common.{◌≡◌, ◌≤◌, ◌*◌, ◌+◌, ◌∷◌, [], ◌++◌, length, take, map, arith, ap, ◌∙◌, sym}
-use Rattle.link_run_inspect.specs.Symbols.{symbols_of, octet_of}
+use Rattle.std.proofs.Common.{◌≡◌, ◌≤◌, ◌<◌, ◌*◌, ◌+◌, ◌++◌, length, take, map, arith, ap, ◌∙◌, sym}
+use Rattle.std.proofs.lemmas.List.{map-append, take-map, take-take}
+use Rattle.line_code.specs.Packed.{symbols_in, word_at, four_symbols}
+use Rattle.line_code.specs.Decoded.{octet_of}
+use Rattle.line_code.proofs.ReadSymbols.{first_symbols}
 use Rattle.link_run_inspect.specs.Frames.{control_word}
-use Rattle.link_run_inspect.proofs.Packed.{many_symbols, word_more, length-word}
 use Rattle.link_run_inspect.proofs.reception.control_word.Goals as goal
 
-pub loop-y-preserved : goal.loop-y-preserved
-loop-y-preserved c =
-    let symbols = symbols_of c.args.octets.now in
-    let many : 4 * (4 * c.args.width) ≤ length symbols = many_symbols c.args.octets.now (4 * c.args.width) (omega arith) in
-    c.push.ensures.items
-    ∙ ap (λ w. w ++ c.octet_of.result ∷ []) c.loop-y.invariant
-    ∙ ap (λ o. map octet_of (take c.loop-y.y symbols) ++ o ∷ []) (c.octet_of.ensures ∙ ap octet_of c.symbol_at.ensures)
-    ∙ sym (word_more octet_of symbols c.loop-y.y (omega (arith, many)))
+pub loop-group-preserved : goal.loop-group-preserved
+loop-group-preserved c =
+    let octets = c.args.octets.now in
+    let symbols = symbols_in octets in
+    let group = c.loop-group.group in
+    let four = four_symbols (word_at octets (5 * group)) in
+    let appended = rw c.unwrap.ensures at c.try_extend_from_slice.ensures.ok in
+    record {
+      items =
+          appended ∙ ap (λ w. w ++ c.four_octets-four.result) c.loop-group.invariant.items
+          ∙ ap (λ o. map octet_of (take (4 * group) symbols) ++ o) c.four_octets-four.ensures
+          ∙ sym (map-append octet_of (take (4 * group) symbols) four)
+          ∙ ap (map octet_of) (sym (first_symbols octets group (omega arith)))
+          ∙ ap (λ n. map octet_of (take n symbols)) (omega arith);
+      few = omega (arith, rw c.unwrap.ensures at c.try_extend_from_slice.ensures.len, ap length c.four_octets-four.ensures, c.loop-group.invariant.few);
+    }
 
 pub returns-clause-word : goal.returns-clause-word
 unfolding control_word
-returns-clause-word c = c.loop-y.invariant ∙ ap (λ n. map octet_of (take n (symbols_of c.args.octets.now))) (omega arith)
-
-pub returns-clause-len : goal.returns-clause-len
-returns-clause-len c =
-    let symbols = symbols_of c.args.octets.now in
-    let many : 4 * (4 * c.args.width) ≤ length symbols = many_symbols c.args.octets.now (4 * c.args.width) (omega arith) in
-    ap length c.loop-y.invariant ∙ length-word octet_of symbols c.loop-y.y (omega (arith, many)) ∙ omega arith
+returns-clause-word c =
+    let symbols = symbols_in c.args.octets.now in
+    let width = c.args.width in
+    let groups = 4 * c.loop-group.group in
+    let within : width ≤ groups = omega (arith, c.div_ceil-group-end.ensures) in
+    c.truncate.ensures.items ∙ ap (take width) c.loop-group.invariant.items ∙ take-map octet_of width (take groups symbols)
+    ∙ ap (map octet_of) (take-take width groups symbols within)

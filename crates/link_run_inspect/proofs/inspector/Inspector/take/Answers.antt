@@ -2,7 +2,7 @@ use Rattle.std.proofs.Common.{◌≡◌, ℕ, List, ◌∷◌, [], ◌++◌, sub
 use Rattle.link_base.specs.Sink.{AppendsFront}
 use Rattle.link_text.specs.Gathered.{Gathers}
 use Rattle.link_text.proofs.Gathering.{gathers_then, breaks_then, front_of_more}
-use Rattle.link_run_inspect.specs.Symbols.{symbols_of}
+use Rattle.line_code.specs.Packed.{symbols_in}
 use Rattle.link_run_inspect.specs.Changes.{changes_of, changes_text}
 use Rattle.link_run_inspect.specs.Managed.{Managed, managed, after_hyperframe}
 use Rattle.link_run_inspect.specs.Events.{followed_text}
@@ -15,7 +15,7 @@ use Rattle.link_run_inspect.proofs.inspector.Inspector.take.Goals as goal
 pub returns-in-Ok-follow-clause-inspects : goal.returns-in-Ok-follow-clause-inspects
 returns-in-Ok-follow-clause-inspects g c s h =
     let r = c.take-changes.new.self in
-    let frame = symbols_of c.args.octets.now in
+    let frame = symbols_in c.args.octets.now in
     let width : r.width ≡ s.width = c.take-changes.ensures.width ∙ h.width in
     let changes : c.take-changes.result ≡ changes_of r.width s.frames frame =
     c.take-changes.ensures.changes s.frames h.receives ∙ ap (λ w. changes_of w s.frames frame) (sym c.take-changes.ensures.width) in
@@ -48,7 +48,7 @@ pub returns-in-Ok-follow-clause-gathers : goal.returns-in-Ok-follow-clause-gathe
 returns-in-Ok-follow-clause-gathers g c s h =
     let taken = g.K.Sink.taken in
     let r = c.take-changes.new.self in
-    let frame = symbols_of c.args.octets.now in
+    let frame = symbols_in c.args.octets.now in
     let width : r.width ≡ s.width = c.take-changes.ensures.width ∙ h.width in
     let changes : c.take-changes.result ≡ changes_of r.width s.frames frame =
     c.take-changes.ensures.changes s.frames h.receives ∙ ap (λ w. changes_of w s.frames frame) (sym c.take-changes.ensures.width) in
@@ -67,7 +67,7 @@ pub returns-in-Err-follow-clause-fails : goal.returns-in-Err-follow-clause-fails
 returns-in-Err-follow-clause-fails g c s h =
     let taken = g.K.Sink.taken in
     let r = c.take-changes.new.self in
-    let frame = symbols_of c.args.octets.now in
+    let frame = symbols_in c.args.octets.now in
     let width : r.width ≡ s.width = c.take-changes.ensures.width ∙ h.width in
     let changes : c.take-changes.result ≡ changes_of r.width s.frames frame =
     c.take-changes.ensures.changes s.frames h.receives ∙ ap (λ w. changes_of w s.frames frame) (sym c.take-changes.ensures.width) in
@@ -86,7 +86,7 @@ pub returns-in-Err-clause-fails : goal.returns-in-Err-clause-fails
 returns-in-Err-clause-fails g c s h =
     let taken = g.K.Sink.taken in
     let r = c.take-changes.new.self in
-    let frame = symbols_of c.args.octets.now in
+    let frame = symbols_in c.args.octets.now in
     let width : r.width ≡ s.width = c.take-changes.ensures.width ∙ h.width in
     let changes : c.take-changes.result ≡ changes_of r.width s.frames frame =
     c.take-changes.ensures.changes s.frames h.receives ∙ ap (λ w. changes_of w s.frames frame) (sym c.take-changes.ensures.width) in

@@ -2,7 +2,7 @@ use Rattle.std.proofs.Common.{refl}
 use Rattle.hyperframe.specs.Locks.{sync_of, sync_within}
 use Rattle.hyperframe.specs.Loss.{is_lost, lost_after}
 use Rattle.link_run_inspect.specs.Frames.{disparity_after, counted_from}
-use Rattle.link_run_inspect.proofs.Spelling.{no_some}
+use Rattle.line_code.proofs.Spelling.{no_some}
 use Rattle.link_run_inspect.proofs.reception.Reception.begin.Goals as goal
 
 pub returns-clause-stands : goal.returns-clause-stands

@@ -3,7 +3,8 @@ use Rattle.hyperframe.specs.Locks.{sync_state, sync_x}
 use Rattle.hyperframe.specs.Acquires.{Acquires}
 use Rattle.hyperframe.specs.Loss.{is_lost}
 use Rattle.hyperframe.specs.CountsLoss.{CountsLoss, counted as count}
-use Rattle.link_run_inspect.specs.Symbols.{symbols_of, is_comma}
+use Rattle.line_code.specs.Packed.{symbols_in}
+use Rattle.line_code.specs.Decoded.{is_comma}
 use Rattle.link_run_inspect.specs.Frames.{commas, counted, has_comma, is_first}
 use Rattle.link_run_inspect.proofs.Receiving.{Receives-push, if_some}
 use Rattle.link_run_inspect.proofs.reception.Reception.receive.Goals as goal
@@ -12,8 +13,8 @@ pub returns-clause-stands : goal.returns-clause-stands
 unfolding has_comma
 returns-clause-stands c frames h =
     let violations = c.read_symbols-line.result.violations in
-    let comma : c.is_comma.result ≡ has_comma (symbols_of c.args.octets.now) = c.is_comma.ensures ∙ ap is_comma c.symbol_at.ensures in
-    Receives-push c.args.self.now _ frames (symbols_of c.args.octets.now) c.x-x.result c.control_word-word.result.items c.read_symbols-line.result.violations
+    let comma : c.is_comma.result ≡ has_comma (symbols_in c.args.octets.now) = c.is_comma.ensures ∙ ap is_comma c.symbol_at.ensures in
+    Receives-push c.args.self.now _ frames (symbols_in c.args.octets.now) c.x-x.result c.control_word-word.result.items c.read_symbols-line.result.violations
     (record {
       width = refl;
       number = refl;
