@@ -1,7 +1,7 @@
 // The payloads of a flow from their arrival to the play of their last frame, in a ring of slots.
 ghost use Rattle.std.specs.Prelude.{◌≡◌, ◌+◌, ◌*◌, ◌<◌, ◌≤◌, ◌^◌, ◌++◌, length, take, drop, IfOk};
 ghost use Rattle.std.specs.FinMap.{empty, retain_keys, len};
-ghost use Rattle.std.specs.Option.{option_copied};
+ghost use Rattle.std.specs.Option.{ForSome, option_copied};
 ghost use Rattle.playout_buffer.specs.Candidate.{candidate_of};
 ghost use Rattle.playout_buffer.specs.Conditions.{IsWindow, payload_octets};
 ghost use Rattle.playout_buffer.specs.Held.{is_awaited, put_answer, payloads_with, part_in};
@@ -84,7 +84,8 @@ impl Playout {
     /// The octets of frame `n`, which is played at the present tick, or none where its packet did not arrive.
     pub fn frame(&self, n: u64) -> Option<&[u8]>
         requires { n + self.now.window.playout ≡ self.now.tick }
-        ensures { option_copied result ≡ part_in self.now.window self.now.held n }
+        ensures octets { option_copied result ≡ part_in self.now.window self.now.held n }
+        ensures length { ForSome result (λ octets. length octets.now ≡ self.now.window.octets) }
     {
         let Window {
             frames,
@@ -129,7 +130,8 @@ fn write_at(octets: &mut [u8], start: usize, piece: &[u8])
 // So many octets from `start` on.
 fn piece_at(octets: &[u8], start: usize, count: usize) -> &[u8]
     requires { start + count ≤ length octets.now }
-    ensures { result.now ≡ take count (drop start octets.now) }
+    ensures piece { result.now ≡ take count (drop start octets.now) }
+    ensures length { length result.now ≡ count }
 {
     &octets[start..start + count]
 }

@@ -4,8 +4,8 @@ use Rattle.playout_buffer.specs.View.{PlayoutView}
 use Rattle.playout_buffer.proofs.SlotSteps.{slot_number, number_at, no_part, the_part, part_fits}
 use Rattle.playout_buffer.proofs.playout.Playout.frame.Goals as goal
 
-pub returns-then-index-number : goal.returns-then-index-number
-returns-then-index-number c =
+pub returns-then-index-number-clause-octets : goal.returns-then-index-number-clause-octets
+returns-then-index-number-clause-octets c =
     let s = c.self.inside in
     let played = rw (← c.self.view_is) at c.requires in
     let number = slot_number s.window s.present s.numbers.items s.octets.items c.self.invariant.0 (c.args.n / s.window.frames) c.index.result.now (rw (c.from.ensures, c.from-2.ensures) at c.index.ensures) in
@@ -21,12 +21,12 @@ piece_at-requires c =
     rw (c.from.ensures, c.from-2.ensures, c.from-3.ensures, c.as_slice.ensures.value)
     (part_fits s.window s.present s.numbers.items s.octets.items c.self.invariant.0 c.args.n played)
 
-pub returns : goal.returns
-returns c =
+pub returns-clause-octets : goal.returns-clause-octets
+returns-clause-octets c =
     let s = c.self.inside in
     let played = rw (← c.self.view_is) at c.requires in
     let number = slot_number s.window s.present s.numbers.items s.octets.items c.self.invariant.0 (c.args.n / s.window.frames) c.index.result.now (rw (c.from.ensures, c.from-2.ensures) at c.index.ensures) in
     let same = number ∙ c.if-index-number.false ∙ ap (λ k. c.args.n / k + 1) c.from.ensures in
-    let piece = rw (c.from.ensures, c.from-2.ensures, c.from-3.ensures, c.as_slice.ensures.value) at c.piece_at.ensures in
+    let piece = rw (c.from.ensures, c.from-2.ensures, c.from-3.ensures, c.as_slice.ensures.value) at c.piece_at.ensures.piece in
     subst (λ (v : PlayoutView). Some c.piece_at.result.now ≡ part_in v.window v.held c.args.n) c.self.view_is
     (ap Some piece ∙ the_part s.window s.present s.numbers.items s.octets.items c.self.invariant.0 c.args.n played same)
