@@ -15,3 +15,7 @@ pub record IsRoute (p : Plan) (f : Flow) (c : Carrier) (route : List Piece) : Ty
   pub size : pieces_size route ≡ container_size c
   pub within : All (λ r. r.start + r.size ≤ 8 * spelled_octets p.mode p f) route
   pub places : (b : ℕ) → b < container_size c → iq_bit route b ≡ place_in_part p f (iq_bit c.pieces b)
+
+-- a piece so many bits on
+abbrev pub moved_by : ℕ → Piece → Piece
+moved_by n r = record { start = n + r.start; size = r.size }

@@ -1,6 +1,6 @@
 -- The symbols of a basic frame that a packet carries in mode `tunnel`, and which of them cannot be (IEEE 802.3 clause
 -- 36.2.4.6; CPRI Specification V7.0, section 4.2: the comma begins a hyperframe, and stands nowhere else).
-use Rattle.std.specs.Prelude.{ℕ, ◌%◌, ◌==◌, ◌&&◌, Bool, true, not, List, find, length, slice_index, Option, Some, None}
+use Rattle.std.specs.Prelude.{ℕ, ◌+◌, ◌%◌, ◌==◌, ◌&&◌, Bool, true, not, List, [], ◌∷◌, find, length, slice_index, Option, Some, None}
 use Rattle.std.specs.List.{range_with_len}
 use Rattle.carrier_plan.specs.declared.plan.Mode.{Mode}
 use Rattle.carrier_plan.specs.declared.plan.Mode.TheVariants.{Tunnel, Bytes, Aware}
@@ -28,3 +28,14 @@ abbrev pub bad_symbol : Mode → ℕ → List ℕ → Option ℕ
 bad_symbol Tunnel n part = first_bad_symbol n (symbols_in part)
 bad_symbol Bytes n part = None
 bad_symbol Aware n part = None
+
+-- 1 for a symbol that spells no octet
+abbrev pub other_by : Option Char → ℕ
+other_by (Some (Octet octet)) = 0
+other_by (Some Comma) = 1
+other_by None = 1
+
+-- how many symbols spell no octet
+unfoldable pub others_in : List ℕ → ℕ
+others_in [] = 0
+others_in (bits ∷ symbols) = other_by (decoded bits) + others_in symbols

@@ -1,0 +1,9 @@
+pub mod Moving
+pub mod PieceBits
+pub mod Carried
+pub mod AwareParts
+pub mod SymbolRuns
+pub mod CharacterRuns
+pub mod WholeParts
+pub mod RouteBits
+pub mod GivenBack
