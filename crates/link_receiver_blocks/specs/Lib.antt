@@ -1,1 +1,3 @@
 pub mod Containers
+pub mod Held
+pub mod View

@@ -1,0 +1,6 @@
+pub mod Blocks
+pub mod HeldLemmas
+pub mod Masks
+pub mod Pieces
+pub mod Rates
+pub mod Spans
