@@ -5,7 +5,7 @@ use Rattle.link_text.specs.Lines.{longest, HasNoFeed, HasNoFault, Took}
 use Rattle.link_text.specs.LineBuffer.{Buffered, Advanced}
 use Rattle.link_text.specs.declared.lines.Ending.TheVariants.{TooLong}
 
--- octets were read behind the rest, and none of the first `searched` is a line feed
+-- octets were read after the rest, and none of the first `searched` is a line feed
 pub record Looks (old now : Buffered) (before after : Shown) (searched : ℕ) : Type 0 where
   pub octets : List ℕ
   pub took : Took octets before after

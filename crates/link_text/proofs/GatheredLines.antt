@@ -7,7 +7,7 @@ use Rattle.link_base.specs.Sink.{Taken, AppendsFront}
 use Rattle.link_text.specs.Gathered.{Gathers, BreaksOff}
 use Rattle.link_text.proofs.Gathering.{gathers_put, gathers_then, breaks_then, front_of_more}
 
--- one range behind another
+-- one range after another
 pub range_split : (a m n : ℕ) → range_with_len a (m + n) ≡ range_with_len a m ++ range_with_len (a + m) n
 range_split a zero n =
     let none : zero + n ≡ n = omega arith in

@@ -1,4 +1,4 @@
--- Text that is gathered and written, one piece behind another.
+-- Text that is gathered and written, one piece after another.
 use Rattle.std.proofs.Common.{◌≡◌, ◌+◌, ◌++◌, [], ℕ, List, length, take, length-append, arith, sym, refl, ap, subst, ◌∙◌, append_assoc, append-nil, IsTrue}
 use Rattle.std.proofs.lemmas.List.{take-append-le}
 use Rattle.std.proofs.Math.Seq.{take-append-add, take-length}
@@ -15,7 +15,7 @@ appends_then a b old mid new first second = record {
       second.written (subst IsTrue (sym first.tells) told) ∙ ap (λ w. w ++ b) (first.written told) ∙ append_assoc old.written a b;
 }
 
--- a front behind a whole piece
+-- a front after a whole piece
 pub front_then : (a b : List ℕ) (old mid new : Taken) → Appends a old mid → AppendsFront b mid new → AppendsFront (a ++ b) old new
 front_then a b old mid new first second = record {
   count = length a + second.count;

@@ -80,7 +80,7 @@ from_some : (o : Option ℕ) → is_some o ≡ true → o ≡ Some (unwrap_or o 
 from_some (Some v) some = refl
 from_some None some = cc some
 
--- behind two digits the octets are one place on
+-- after two digits the octets are one place on
 octet_next : (a b k : ℕ) (rest : List ℕ) → octet_at (a ∷ b ∷ rest) (suc k) ≡ octet_at rest k
 octet_next a b k rest =
     let high : 2 * suc k ≡ suc (suc (2 * k)) = omega arith in

@@ -60,7 +60,7 @@ feed_in_tail octets searched place within front found =
     let there = subst (λ hay. NoneBefore (Passes (is_byte 10) hay) 0 (length hay) place × Passes (is_byte 10) hay place) (tail octets searched) found in
     feed_found octets searched place within front there.0 there.1
 
--- a line feed behind more octets than a line has
+-- a line feed after more octets than a line has
 pub far_feed : (octets : List ℕ) (place n : ℕ) → IsFirstFeed octets place → n ≤ place → HasNoFeed (take n octets)
 far_feed octets place n first far =
     subst HasNoFeed (take-take n place octets far) (HasNoFeed-take (take place octets) n first.before)

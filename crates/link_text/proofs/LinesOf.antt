@@ -50,7 +50,7 @@ lines_of-rest text none = ap all_but_last (slice_split_none (λ c. c == 10) text
 pub rest_of-rest : (text : List ℕ) → HasNoFeed text → rest_of text ≡ text
 rest_of-rest text none = ap last_part (slice_split_none (λ c. c == 10) text (no_feed_test text none))
 
--- the parts with a line feed behind each but the last
+-- the parts with a line feed after each but the last
 joined : (part : List ℕ) (parts : List (List ℕ)) → with_feeds (all_but_last (part ∷ parts)) ++ last_part (part ∷ parts) ≡ join_with_byte 10 (part ∷ parts)
 joined part [] = refl
 joined part (next ∷ parts) =
@@ -120,7 +120,7 @@ unended_exact hand rest line.TooLong gives whole = (λ e. cc e, λ h. absurd (om
 unended_exact hand rest line.Unended gives whole = (λ _. (gives.0, gives.1, gives.2), λ _. refl)
 unended_exact hand rest line.Failed gives whole = absurd (whole refl)
 
--- more octets behind those at hand: the answer is the same, unless it was given for want of them
+-- more octets after those at hand: the answer is the same, unless it was given for want of them
 more_behind : (hand rest more : List ℕ) (answer : Line) → Gives hand rest answer → ending_of answer ≢ Some ending.Failed
     → (ending_of answer ≡ Some ending.End → more ≡ []) → (ending_of answer ≡ Some ending.Unended → more ≡ [])
     → Gives (hand ++ more) (rest ++ more) answer

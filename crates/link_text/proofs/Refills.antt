@@ -1,4 +1,4 @@
--- What the buffer of a reader of lines holds after a read behind its rest.
+-- What the buffer of a reader of lines holds after a read after its rest.
 use Rattle.std.proofs.Common.{◌≡◌, ℕ, ◌+◌, ◌-◌, ◌≤◌, List, [], ◌++◌, length, take, drop, sym, ◌∙◌, ap, arith, length-append, length-take, length-drop, append-nil, slice_range}
 use Rattle.std.proofs.Math.Seq.{take-append-add, take-append_seam}
 use Rattle.std.proofs.lemmas.List.{take-append-drop, take_all, drop_all, length-take-le}
@@ -9,7 +9,7 @@ use Rattle.link_base.specs.Shelf.{Shown, Takes}
 pub length_behind : (xs : List ℕ) (len : ℕ) → length (take (length xs - len) (drop len xs)) ≡ length xs - len
 length_behind xs len = simp (length-take, length-drop) (omega arith)
 
--- the octets up to `len` and the first `count` of those that were read behind them
+-- the octets up to `len` and the first `count` of those that were read after them
 pub refilled : (xs ys buf : List ℕ) (len n count : ℕ) → len ≤ length xs → length buf ≡ length xs - len → n ≡ length xs → length ys ≡ length xs
     → (let octets = put_mid len (length xs - len) xs buf in slice_range (take n (octets ++ drop (length octets) ys)) 0 (len + count))
     ≡ take len xs ++ take count buf

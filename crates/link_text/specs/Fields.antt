@@ -9,7 +9,7 @@ abbrev pub cut_at : List ℕ → Option ℕ → Option (List ℕ × List ℕ)
 cut_at line None = None
 cut_at line (Some place) = Some (take place line, drop (place + 1) line)
 
--- the text before the first space and the text behind it, if there is a space
+-- the text before the first space and the text after it, if there is a space
 abbrev pub at_first_space : List ℕ → Option (List ℕ × List ℕ)
 at_first_space line = cut_at line (position is_space line)
 

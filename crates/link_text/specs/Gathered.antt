@@ -6,7 +6,7 @@ use Rattle.link_base.specs.Sink.{Taken, Appends, AppendsFront}
 abbrev pub text_capacity : ℕ
 text_capacity = 8192
 
--- More text was gathered behind that in hand: what was written of both and what is in hand are the two, in their order.
+-- More text was gathered after that in hand: what was written of both and what is in hand are the two, in their order.
 pub record Gathers (more hand : List ℕ) (old : Taken) (hand' : List ℕ) (new : Taken) : Type 0 where
   pub moved : List ℕ
   pub written : Appends moved old new

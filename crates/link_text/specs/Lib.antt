@@ -6,3 +6,4 @@ pub mod LineBuffer
 pub mod Gathered
 pub mod Fields
 pub mod Printed
+pub mod Laid

@@ -118,7 +118,7 @@ lent_len line.TooLong = 0
 lent_len line.Unended = 0
 lent_len line.Failed = 0
 
--- The first answers: octets are read behind those that are kept, and the answer is given for both.
+-- The first answers: octets are read after those that are kept, and the answer is given for both.
 pub record GivesNext (old new : Reading) (before after : Shown) (answer : Line) : Type 0 where
   pub octets : List ℕ
   pub took : Took octets before after

@@ -132,7 +132,7 @@ impl LineBuffer {
         }
     }
 
-    // Reads as many octets as there is room for, behind the rest, which is moved to the front.
+    // Reads as many octets as there is room for, after the rest, which is moved to the front.
     fn refill<H: Shelf>(&mut self, shelf: &mut H) -> Result<usize, Failed>
         requires { length self.old.rest < 8192 }
         ensures cause { HasCause (H.shown shelf.old).faults (H.shown shelf.new).faults result }

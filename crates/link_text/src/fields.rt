@@ -9,7 +9,7 @@ fn space_place(line: &[u8]) -> Option<usize>
     line.iter().position(|c| *c == b' ')
 }
 
-/// The text before the first space of a line and the text behind it, if it has a space.
+/// The text before the first space of a line and the text after it, if it has a space.
 pub fn at_first_space(line: &[u8]) -> Option<(&[u8], &[u8])>
     ensures some { IfSome result (λ fields. at_first_space line.now ≡ Some (fields.0.now, fields.1.now)) }
     ensures none { IfNone result (at_first_space line.now ≡ None) }

@@ -5,7 +5,7 @@ ghost use Rattle.link_base.specs.Faults.{HasCause};
 ghost use Rattle.link_base.specs.Sink.{Appends, AppendsFront};
 ghost use Rattle.link_text.specs.Gathered.{Gathers, text_capacity};
 
-use arrayvec::ArrayVec;
+use crate::laid::Lay;
 use itoa::Buffer;
 use link_base::{Failed, Sink, put_all};
 use std::marker::Model;
@@ -16,15 +16,19 @@ const CAPACITY: usize = 8192;
 /// Text that is gathered, so that it is written in few pieces. Clauses see it as the octets in hand.
 #[derive(Drop)]
 pub struct TextBuffer {
-    octets: ArrayVec<u8, CAPACITY>,
+    octets: [u8; CAPACITY],
+    // how many of them are in hand
+    len: usize,
 }
 
 impl Model for TextBuffer {
-    ghost use Rattle.std.specs.Prelude.{ℕ, List};
+    ghost use Rattle.std.specs.Prelude.{ℕ, List, ◌≤◌, take};
 
     ghost Value = { List ℕ };
 
-    ghost view = { λ b. b.octets.items };
+    ghost view = { λ b. take b.len b.octets };
+
+    ghost invariant = { λ b. b.len ≤ 8192 };
 }
 
 impl TextBuffer {
@@ -33,7 +37,8 @@ impl TextBuffer {
         ensures { result ≡ [] }
     {
         TextBuffer {
-            octets: ArrayVec::new(),
+            octets: [0; CAPACITY],
+            len: 0,
         }
     }
 
@@ -44,8 +49,8 @@ impl TextBuffer {
         ensures whole { OnOk result (Appends self.old (K.taken out.old) (K.taken out.new)) }
         ensures front { AppendsFront self.old (K.taken out.old) (K.taken out.new) }
     {
-        let written = put_all(out, self.octets.as_slice());
-        self.octets.clear();
+        let written = put_all(out, &self.octets[..self.len]);
+        self.len = 0;
         written
     }
 
@@ -57,7 +62,7 @@ impl TextBuffer {
         ensures gathers { OnOk result (Gathers [] self.old (K.taken out.old) self.new (K.taken out.new)) }
         ensures front { AppendsFront self.old (K.taken out.old) (K.taken out.new) }
     {
-        if self.octets.remaining_capacity() < octets {
+        if CAPACITY - self.len < octets {
             return self.flush(out);
         }
         Ok(())
@@ -68,7 +73,9 @@ impl TextBuffer {
         requires { length self.old + length octets.now ≤ text_capacity }
         ensures { self.new ≡ self.old ++ octets.now }
     {
-        self.octets.try_extend_from_slice(octets).unwrap();
+        let end = self.len + octets.len();
+        self.octets[self.len..end].copy_from_slice(octets);
+        self.len = end;
     }
 
     /// Appends an octet.
@@ -77,7 +84,17 @@ impl TextBuffer {
         requires { length self.old < text_capacity }
         ensures { self.new ≡ self.old ++ octet ∷ [] }
     {
-        self.octets.push(octet);
+        self.octets[self.len] = octet;
+        self.len += 1;
+    }
+
+    /// Appends a text that lays itself out.
+    #[inline]
+    pub fn put_laid<L: Lay>(&mut self, piece: &L)
+        requires { length self.old + L.room piece.now ≤ text_capacity }
+        ensures { self.new ≡ self.old ++ L.text piece.now }
+    {
+        self.len = piece.lay(&mut self.octets, self.len);
     }
 
     // Appends a number of one digit or two.

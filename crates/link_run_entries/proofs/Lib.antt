@@ -1,0 +1,4 @@
+pub mod Laying
+pub mod GroupTable
+pub mod Numbers
+pub mod RunLines

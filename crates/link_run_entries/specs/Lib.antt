@@ -1,0 +1,3 @@
+pub mod SampleLines
+pub mod Groups
+pub mod Fronts

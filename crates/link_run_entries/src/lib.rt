@@ -1,0 +1,12 @@
+//! Runs of samples that leave, as text.
+#![tactic(auto)]
+
+mod digits;
+mod front;
+mod run;
+mod store;
+
+pub use run::{ROOM, put_run};
+
+#[cfg(test)]
+mod tests;
