@@ -32,12 +32,7 @@ fn caps_of(hdlc: &[u8], pointer: &[u8]) -> Option<Caps>
     ensures some { IfSome result (λ caps. caps_of (decimal_value hdlc.now) (decimal_value pointer.now) ≡ Some (greatest_offer caps)) }
     ensures none { IfNone result (caps_of (decimal_value hdlc.now) (decimal_value pointer.now) ≡ None) }
 {
-    let hdlc = decimal(hdlc, 6)? as u8;
-    let pointer = decimal(pointer, 63)? as u8;
-    if pointer > 0 && pointer < 20 {
-        return None;
-    }
-    Some(Caps { hdlc, pointer })
+    Caps::of(decimal(hdlc, u64::MAX)?, decimal(pointer, u64::MAX)?)
 }
 
 /// The caps of both ends, if the line is a header: `startup H1 P1 H2 P2`.

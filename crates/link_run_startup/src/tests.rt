@@ -8,7 +8,7 @@ use std::test::Fail;
 
 const HEADER: &str = "startup 3 20 5 40\n";
 
-/// A start-up of two ends to operation: the events behind a header.
+/// A start-up of two ends to operation: the events after a header.
 const TO_OPERATION: &str =
     "start 1\nstart 2\ntell 1\ntell 2\nhear 1\nhear 2\ntell 1\ntell 2\nhear 1\nhear 2\ntell 1\ntell 2\nhear 1\nhear 2\nagree 1\nagree 2\nend\n";
 
@@ -37,7 +37,7 @@ fn play(alloc: Global, file: &str, room: usize) -> Result<Outcome, NoMemory> {
     Ok(Outcome { status, text })
 }
 
-// The file of these lines behind a header.
+// The file of these lines after a header.
 fn file_of(alloc: Global, header: &str, lines: &str) -> Result<String, NoMemory> {
     let mut file = String::from_str(alloc, header)?;
     file.push_str(lines)?;
@@ -116,7 +116,7 @@ fn a_line_of_4097_octets_is_too_long(rt: HostRuntime) -> Result<(), Fail> {
     Ok(())
 }
 
-/// Plays a file with so many of one event behind its first lines, and compares the status.
+/// Plays a file with so many of one event after its first lines, and compares the status.
 fn compare_many(
     rt: &impl Abort,
     alloc: Global,

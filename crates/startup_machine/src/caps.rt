@@ -14,8 +14,25 @@ pub struct Caps {
 }
 
 impl Caps {
-    ghost use Rattle.std.specs.Prelude.{◌≡◌};
+    ghost use Rattle.std.specs.Prelude.{◌≡◌, IfSome, IfNone, IsTrue, IsFalse};
     ghost use Rattle.startup_machine.specs.Offers.{greatest_offer};
+    ghost use Rattle.startup_machine.specs.Range.{is_in_range};
+
+    /// The caps of this rate code and this pointer, where an end can have them.
+    pub fn of(hdlc: u64, pointer: u64) -> Option<Caps>
+        ensures in_range { IfSome result (λ caps. IsTrue (is_in_range hdlc pointer)) }
+        ensures hdlc { IfSome result (λ caps. caps.hdlc ≡ hdlc) }
+        ensures pointer { IfSome result (λ caps. caps.pointer ≡ pointer) }
+        ensures none { IfNone result (IsFalse (is_in_range hdlc pointer)) }
+    {
+        if hdlc > 6 || pointer > 63 || (pointer > 0 && pointer < 20) {
+            return None;
+        }
+        Some(Caps {
+            hdlc: hdlc as u8,
+            pointer: pointer as u8,
+        })
+    }
 
     /// The offer of all that the end is capable of.
     pub(crate) fn greatest_offer(self) -> Offer
