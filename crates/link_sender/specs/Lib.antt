@@ -1,3 +1,4 @@
 pub mod Stream
+pub mod Managed
 pub mod Frames
 pub mod Packets

@@ -1,26 +1,32 @@
 -- The packets that carry the frames of a stream. How frames are put into payloads is this project's own.
 use Rattle.std.specs.Prelude.{◌≡◌, ℕ, ◌+◌, ◌*◌, ◌<◌, List, length, take, drop}
+use Rattle.std.specs.List.{HoldsAt}
 use Rattle.carrier_plan.specs.declared.plan.Flow.{Flow}
-use Rattle.carrier_plan.specs.declared.plan.Mode.{Mode}
-use Rattle.carrier_plan.specs.declared.plan.Mode.TheVariants.{Tunnel, Bytes, Aware}
 use Rattle.carrier_plan.specs.declared.plan.Plan.{Plan}
+use Rattle.line_code.specs.Line.{characters_from, disparity_after_all}
+use Rattle.line_code.specs.declared.characters.Rd.TheVariants.{Minus}
 use Rattle.plan_checker.specs.Flows.{octets_of_frame}
 use Rattle.plan_checker.specs.Packets.{subtype_of, sequence_of}
 use Rattle.roe_header.specs.Layout.{Fields, packet_octets}
+use Rattle.roe_mappers.specs.Parts.{IsPart}
 use Rattle.link_sender.specs.Stream.{Stream}
 use Rattle.link_sender.specs.Frames.{IsFrame}
 
--- These octets carry frame n in a packet. Mode `bytes` alone is told so far: no octets do so in the other modes.
-abbrev pub IsPart : Mode → Plan → Stream → ℕ → List ℕ → Type 0
-IsPart Tunnel p σ n octets = ⊥
-IsPart Bytes p σ n octets = IsFrame p σ n octets
-IsPart Aware p σ n octets = ⊥
+-- These octets carry frame n of the stream in a packet of the flow. In mode `tunnel` they are its symbols on the line of all
+-- frames of the run, which begins at negative disparity at frame 0.
+pub record CarriesFrame (p : Plan) (σ : Stream) (f : Flow) (n : ℕ) (octets : List ℕ) : Type 0 where
+  pub before : List (List ℕ)
+  pub count : length before ≡ n
+  pub are_frames : (i : ℕ) → i < n → HoldsAt (IsFrame p σ i) before i
+  pub frame : List ℕ
+  pub is_frame : IsFrame p σ n frame
+  pub is_part : IsPart p f n (disparity_after_all Minus (characters_from 0 before)) frame octets
 
 -- The payload of packet i is the parts of its frames, one after another.
 pub record IsPayload (p : Plan) (σ : Stream) (f : Flow) (i : ℕ) (payload : List ℕ) : Type 0 where
   pub size : length payload ≡ f.frames * octets_of_frame p f
   pub parts : (k : ℕ) → k < f.frames
-      → IsPart p.mode p σ (i * f.frames + k) (take (octets_of_frame p f) (drop (k * octets_of_frame p f) payload))
+      → CarriesFrame p σ f (i * f.frames + k) (take (octets_of_frame p f) (drop (k * octets_of_frame p f) payload))
 
 abbrev pub packet_fields : Plan → Flow → ℕ → List ℕ → Fields
 packet_fields p f i payload = record {
