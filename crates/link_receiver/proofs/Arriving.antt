@@ -1,140 +1,120 @@
--- What arrives, and what is received of it.
-use Rattle.std.proofs.Common.{◌≡◌, ℕ, suc, ◌+◌, ◌<◌, cond, IsTrue, List, [], ◌∷◌, ◌++◌, length, All, filter_map, slice_get, slice_set, get_or, Option, Some, None, refl, sym, ap, ◌∙◌, subst, arith, inl, inr}
-use Rattle.std.specs.List.{cons_option}
-use Rattle.std.specs.Option.{is_some, option_or}
-use Rattle.std.proofs.lemmas.Bool.{cases_eq, false≢true}
-use Rattle.std.proofs.lemmas.Option.{same_Some}
-use Rattle.std.proofs.lemmas.List.{get_or-set_same, get_or-set_other, length-set, ext_get_or}
-use Rattle.std.proofs.lemmas.List.Elements.{filter_map-append}
-use Rattle.std.proofs.lemmas.List.FromFn.{get_or-map-range_with_len, length-map-range_with_len}
+-- What octets bring for a flow.
+use Rattle.std.proofs.Common.{◌≡◌, ◌≢◌, ◌==◌, ℕ, ◌*◌, ◌<◌, ◌≤◌, true, false, cond, List, length, position, get_or, Some, None, slice_get, Ok, sym, ap, ◌∙◌, subst, arith, inl, inr}
+use Rattle.std.proofs.lemmas.Bool.{cases_eq, cases_lt, eq-eqb, ne_eqb, and_left, and_right, and_from, both_ways}
+use Rattle.std.proofs.lemmas.List.{get_or-map}
+use Rattle.std.proofs.lemmas.List.Quantifiers.{position-Some}
+use Rattle.std.proofs.lemmas.Option.{get_or_from_slice_get, slice_get_within}
 use Rattle.carrier_plan.specs.declared.plan.Flow.{Flow}
 use Rattle.carrier_plan.specs.declared.plan.Plan.{Plan}
-use Rattle.plan_checker.specs.Packets.{run_packets}
-use Rattle.roe_header.specs.Layout.{parsed}
-use Rattle.link_receiver.specs.Addressed.{IsFor, IsForNone}
-use Rattle.link_receiver.specs.Arrivals.{on_octets, arrives}
-use Rattle.link_receiver.specs.declared.arrive.Arrive.{Arrive}
-use Rattle.link_receiver.specs.declared.arrive.Arrive.TheVariants.{Taken, Repeat}
-use Rattle.link_receiver.specs.Received.{received}
 use Rattle.link_base.specs.Record.{Record}
-use Rattle.link_receiver.specs.Records.{payload_by, payload_for}
-use Rattle.link_receiver.specs.Sessions.{all_received, HoldsReceived}
-use Rattle.link_receiver.proofs.Entries.{map-ranges}
+use Rattle.plan_checker.specs.Flows.{HasPayload, SharesOutCarriers, octets_of_frame}
+use Rattle.plan_checker.specs.Packets.{subtype_of}
+use Rattle.plan_checker.specs.Rules.{IsGood}
+use Rattle.plan_checker.specs.Rules.Rule.{Counts, PayloadSize, SharedOut}
+use Rattle.plan_checker.specs.Run.{frame_octets_of}
+use Rattle.playout_buffer.specs.Candidate.{candidate_of}
+use Rattle.playout_buffer.specs.Received.{arrival_answer}
+use Rattle.roe_header.specs.Layout.{Fields}
+use Rattle.link_receiver.specs.Answers.{IsOf, IsOfNone, answer_by, on_flow, on_flow_id, on_octets}
+use Rattle.link_receiver.specs.Records.{is_of_flow, fits, arrival_by, arrivals_of, window_of}
+use Rattle.link_receiver.specs.declared.arrive.Arrive.TheVariants.{Size, Foreign}
+use Rattle.link_receiver.specs.declared.arrive.Foreign.TheVariants as cause
+use Rattle.link_receiver.proofs.Items.{at_place, none_passes}
 
--- the first of two lists
-first-append : {X : Type 0} (xs ys : List X) → slice_get (xs ++ ys) 0 ≡ option_or (slice_get xs 0) (slice_get ys 0)
-first-append [] ys = refl
-first-append (x ∷ xs) ys = refl
+-- the octets of a payload of a flow
+pub octets_of_payload : (p : Plan) (place : ℕ) (f : Flow) (octets : ℕ) → IsGood p → slice_get p.flows place ≡ Some f → octets ≡ frame_octets_of p place
+    → (octets ≡ octets_of_frame p f) × (f.frames * octets ≤ 1_492) × (place < 8)
+octets_of_payload p place f octets good read is =
+    let inside = slice_get_within p.flows place f read in
+    let same : octets ≡ octets_of_frame p f = is ∙ get_or-map (octets_of_frame p) p.flows place f 0 inside ∙ ap (octets_of_frame p) (get_or_from_slice_get p.flows place f f read) in
+    let payload : HasPayload p f = at_place (HasPayload p) p.flows place f read (good PayloadSize place inside) in
+    let counts = good Counts 0 (omega arith) in
+    (same, subst (λ n. f.frames * n ≤ 1_492) (sym same) payload.few_octets, omega (arith, counts.few_flows))
 
-pub received-append : (p : Plan) (f : Flow) (h : ℕ) (records more : List Record) (i : ℕ) → received p f h (records ++ more) i ≡ option_or (received p f h records i) (received p f h more i)
-received-append p f h records more i =
-    ap (λ xs. slice_get xs 0) (filter_map-append (payload_for p f h i) records more)
-    ∙ first-append (filter_map (payload_for p f h i) records) (filter_map (payload_for p f h i) more)
+-- flows at two places have different ids
+other_place : (p : Plan) (i place : ℕ) (g f : Flow) → IsGood p → slice_get p.flows i ≡ Some g → slice_get p.flows place ≡ Some f → i ≢ place → g.id ≢ f.id
+other_place p i place g f good read at other =
+    let shared : SharesOutCarriers p.flows (length p.carriers) = good SharedOut 0 (omega arith) in
+    let inside = slice_get_within p.flows i g read in
+    let within = slice_get_within p.flows place f at in
+    let is_g = get_or_from_slice_get p.flows i g g read in
+    let is_f = get_or_from_slice_get p.flows place f g at in
+    elim (cases_lt i place) [
+      | inl below ↦ subst (λ x. x.id ≢ f.id) is_g (subst (λ x. (get_or p.flows i g).id ≢ x.id) is_f (shared.distinct_ids i place g below within))
+      | inr above ↦ λ same.
+          let apart = subst (λ x. f.id ≢ x.id) is_g (subst (λ x. x.id ≢ (get_or p.flows i g).id) is_f (shared.distinct_ids place i g (omega arith) inside)) in
+          apart (sym same)
+    ]
 
-option_or-some : {X : Type 0} (o other : Option X) → IsTrue (is_some o) → option_or o other ≡ o
-option_or-some None other some = absurd (false≢true some)
-option_or-some (Some x) other some = refl
+module _ (p : Plan) (packet : Fields) (good : IsGood p) where
+  -- a packet that does not fit a flow brings nothing for it
+  unfit : (f : Flow) (t : ℕ) → fits p f packet ≡ false → arrival_by p f t (Ok packet) ≡ None
+  unfit f t wrong = ap (λ b. cond b (Some (record { tick = t; seq = packet.seq; payload = packet.payload })) None) wrong
 
-first-cons_option : {X : Type 0} (o : Option X) → slice_get (cons_option o []) 0 ≡ o
-first-cons_option None = refl
-first-cons_option (Some x) = refl
+  other_id : (f : Flow) (t : ℕ) → packet.flow ≢ f.id → arrival_by p f t (Ok packet) ≡ None
+  other_id f t other =
+      unfit f t (and_left (is_of_flow p f packet) (length packet.payload == f.frames * octets_of_frame p f)
+      (and_right (packet.sub == subtype_of p.mode) (packet.flow == f.id) (ne_eqb packet.flow f.id other)))
 
-option_or-none : {X : Type 0} (o : Option X) → option_or o None ≡ o
-option_or-none None = refl
-option_or-none (Some x) = refl
+  on_subtype : (h t : ℕ) (records : List Record) → packet.sub ≡ subtype_of p.mode
+      → on_octets p h records t (Ok packet) ≡ on_flow_id p h records t packet (position (λ (f : Flow). f.id == packet.flow) p.flows)
+  on_subtype h t records sub =
+      ap (λ b. cond b (on_flow_id p h records t packet (position (λ (f : Flow). f.id == packet.flow) p.flows)) (Foreign (cause.Sub packet.sub))) (eq-eqb packet.sub (subtype_of p.mode) sub)
 
--- records that bring nothing change nothing
-filter_map-none : {X Y : Type 0} (g : X → Option Y) (xs : List X) → All (λ x. g x ≡ None) xs → filter_map g xs ≡ []
-filter_map-none g [] none = refl
-filter_map-none g (x ∷ xs) none =
-    ap (λ o. cons_option o (filter_map g xs)) (none 0 x (omega arith)) ∙ filter_map-none g xs (λ k d less. none (suc k) d (omega arith))
+  -- of a packet with an id that no flow has
+  pub no_flow : packet.sub ≡ subtype_of p.mode → position (λ (f : Flow). f.id == packet.flow) p.flows ≡ None
+      → IsOfNone p (Ok packet) (Foreign (cause.Flow packet.flow))
+  no_flow sub none = record {
+    none = λ i t f read. other_id f t (λ same.
+        both_ways (f.id == packet.flow) (none_passes (λ (g : Flow). g.id == packet.flow) p.flows i f none read) (eq-eqb f.id packet.flow (sym same)));
+    answered = λ h t records. on_subtype h t records sub ∙ ap (on_flow_id p h records t packet) none;
+  }
 
-pub received-none : (p : Plan) (f : Flow) (h : ℕ) (records more : List Record) (i : ℕ) → All (λ r. payload_for p f h i r ≡ None) more
-    → received p f h (records ++ more) i ≡ received p f h records i
-received-none p f h records more i none =
-    received-append p f h records more i
-    ∙ ap (λ xs. option_or (received p f h records i) (slice_get xs 0)) (filter_map-none (payload_for p f h i) more none)
-    ∙ option_or-none (received p f h records i)
+  module _ (place : ℕ) (f : Flow) (octets : ℕ) (sub : packet.sub ≡ subtype_of p.mode) (found : position (λ (g : Flow). g.id == packet.flow) p.flows ≡ Some place)
+      (at : slice_get p.flows place ≡ Some f) (is : octets ≡ frame_octets_of p place) where
+    the_id : packet.flow ≡ f.id
+    the_id =
+        let passes : (f.id == packet.flow) ≡ true = subst (λ (g : Flow). (g.id == packet.flow) ≡ true) (get_or_from_slice_get p.flows place f f at) (position-Some (λ (g : Flow). g.id == packet.flow) p.flows place f found).1 in
+        elim (cases_eq packet.flow f.id) [
+          | inl same ↦ same
+          | inr other ↦ absurd (both_ways (f.id == packet.flow) (ne_eqb f.id packet.flow (λ e. other (sym e))) passes)
+        ]
 
--- one record more
-pub received-one : (p : Plan) (f : Flow) (h : ℕ) (records : List Record) (r : Record) (i : ℕ) → received p f h (records ++ r ∷ []) i ≡ option_or (received p f h records i) (payload_for p f h i r)
-received-one p f h records r i = received-append p f h records (r ∷ []) i ∙ ap (option_or (received p f h records i)) (first-cons_option (payload_for p f h i r))
+    elsewhere : (i t : ℕ) (g : Flow) → slice_get p.flows i ≡ Some g → i ≢ place → arrival_by p g t (Ok packet) ≡ None
+    elsewhere i t g read other = other_id g t (λ same. other_place p i place g f good read at other (sym same ∙ the_id))
 
-unfold_payload : (p : Plan) (f : Flow) (h i t : ℕ) (octets : List ℕ) → payload_for p f h i (record { tick = t; octets = octets }) ≡ payload_by p f h t i (parsed octets)
-unfolding payload_for
-unfold_payload p f h i t octets = refl
+    here : (h t : ℕ) (records : List Record) → on_octets p h records t (Ok packet) ≡ on_flow p (Some f) h records t place packet
+    here h t records =
+        on_subtype h t records sub ∙ ap (on_flow_id p h records t packet) found ∙ ap (λ o. on_flow p o h records t place packet) at
 
-unfold_arrives : (p : Plan) (h : ℕ) (records : List Record) (t : ℕ) (octets : List ℕ) → arrives p h records t octets ≡ on_octets p h records t (parsed octets)
-unfolding arrives
-unfold_arrives p h records t octets = refl
+    length_of : f.frames * octets ≡ f.frames * octets_of_frame p f
+    length_of = ap (λ n. f.frames * n) (octets_of_payload p place f octets good at is).0
 
-module _ (p : Plan) (f : Flow) (h t : ℕ) (octets : List ℕ) (payloads : List (Option (List ℕ))) (records : List Record)
-    (first : slice_get p.flows 0 ≡ Some f) (holds : HoldsReceived p h payloads records) where
-  abbrev arrived : List Record
-  arrived = records ++ record { tick = t; octets = octets } ∷ []
+    -- of a packet of a flow whose payload has another length
+    pub other_size : length packet.payload ≢ f.frames * octets → IsOfNone p (Ok packet) (Size place (length packet.payload))
+    other_size other =
+        let wrong : (length packet.payload == f.frames * octets_of_frame p f) ≡ false = ne_eqb (length packet.payload) (f.frames * octets_of_frame p f) (λ e. other (e ∙ sym length_of)) in record {
+          none = λ i t g read. elim (cases_eq i place) [
+            | inl same ↦
+                let this : g ≡ f = sym (get_or_from_slice_get p.flows i g f read) ∙ ap (λ k. get_or p.flows k f) same ∙ get_or_from_slice_get p.flows place f f at in
+                subst (λ x. arrival_by p x t (Ok packet) ≡ None) (sym this) (unfit f t (and_right (is_of_flow p f packet) (length packet.payload == f.frames * octets_of_frame p f) wrong))
+            | inr apart ↦ elsewhere i t g read apart
+          ];
+          answered = λ h t records. here h t records
+              ∙ ap (λ b. cond b (answer_by place packet.seq (arrival_answer (window_of p f h) (arrivals_of p f records) (candidate_of (window_of p f h) t packet.seq))) (Size place (length packet.payload))) wrong;
+        }
 
-  one_more : (i : ℕ) → received p f h arrived i ≡ option_or (received p f h records i) (payload_by p f h t i (parsed octets))
-  one_more i =
-      received-one p f h records (record { tick = t; octets = octets }) i
-      ∙ ap (option_or (received p f h records i)) (unfold_payload p f h i t octets)
-
-  -- the flow is the first, whatever it is called
-  holds_for : (more : List (Option (List ℕ))) (all : List Record) → more ≡ all_received p f h all → HoldsReceived p h more all
-  holds_for more all e g read = e ∙ ap (λ flow. all_received p flow h all) (same_Some f g (sym first ∙ read))
-
-  pub none_arrives : (answer : Arrive) → IsForNone p f h t (parsed octets) answer → (answer ≡ arrives p h records t octets) × HoldsReceived p h payloads arrived
-  none_arrives answer is = (
-    sym (unfold_arrives p h records t octets ∙ is.answered records),
-    holds_for payloads arrived (holds f first ∙ map-ranges (received p f h records) (received p f h arrived) 0 0 (run_packets p f h) (λ i less.
-        sym (one_more (0 + i) ∙ ap (option_or (received p f h records (0 + i))) (is.none (0 + i)) ∙ option_or-none (received p f h records (0 + i))))),
-  )
-
-  -- what is held of a packet
-  pub held : (i : ℕ) (d : Option (List ℕ)) → i < run_packets p f h → get_or payloads i d ≡ received p f h records i
-  held i d less = ap (λ xs. get_or xs i d) (holds f first) ∙ get_or-map-range_with_len (received p f h records) 0 (run_packets p f h) i i d less (omega arith)
-
-  repeated : (number : ℕ) (payload : List ℕ) → IsFor p f h t (parsed octets) number payload → IsTrue (is_some (received p f h records number)) → (i : ℕ)
-      → option_or (received p f h records i) (payload_by p f h t i (parsed octets)) ≡ received p f h records i
-  repeated number payload is known i = elim (cases_eq i number) [
-    | inl same ↦ option_or-some (received p f h records i) (payload_by p f h t i (parsed octets)) (subst (λ k. IsTrue (is_some (received p f h records k))) (sym same) known)
-    | inr other ↦ ap (option_or (received p f h records i)) (is.only i other) ∙ option_or-none (received p f h records i)
-  ]
-
-  pub repeat_arrives : (number : ℕ) (payload : List ℕ) → IsFor p f h t (parsed octets) number payload → IsTrue (is_some (get_or payloads number None))
-      → (Repeat 0 number ≡ arrives p h records t octets) × HoldsReceived p h payloads arrived
-  repeat_arrives number payload is before =
-      let known : IsTrue (is_some (received p f h records number)) = subst (λ o. IsTrue (is_some o)) (held number None is.within) before in (
-        sym (unfold_arrives p h records t octets ∙ is.answer records ∙ ap (λ b. cond b (Repeat 0 number) (Taken 0 number)) known),
-        holds_for payloads arrived (holds f first ∙ map-ranges (received p f h records) (received p f h arrived) 0 0 (run_packets p f h) (λ i less.
-            let here : 0 + i ≡ i = omega arith in
-            ap (received p f h records) here ∙ sym (ap (received p f h arrived) here ∙ one_more i ∙ repeated number payload is known i))),
-      )
-
-  set_place : (number : ℕ) (payload : List ℕ) → IsFor p f h t (parsed octets) number payload → received p f h records number ≡ None → (i : ℕ) → i < run_packets p f h
-      → get_or (slice_set payloads number (Some payload)) i None ≡ received p f h arrived i
-  set_place number payload is none i less =
-      let long : length payloads ≡ run_packets p f h = ap length (holds f first) ∙ length-map-range_with_len (received p f h records) 0 (run_packets p f h) in
-      elim (cases_eq i number) [
-        | inl same ↦
-            ap (λ k. get_or (slice_set payloads number (Some payload)) k None) same
-            ∙ get_or-set_same payloads number (Some payload) None (omega (arith, long, is.within))
-            ∙ sym (one_more i ∙ ap (λ k. option_or (received p f h records k) (payload_by p f h t k (parsed octets))) same
-            ∙ ap (λ o. option_or o (payload_by p f h t number (parsed octets))) none ∙ is.brings)
-        | inr other ↦
-            get_or-set_other payloads number i (Some payload) None other ∙ held i None less
-            ∙ sym (one_more i ∙ ap (option_or (received p f h records i)) (is.only i other) ∙ option_or-none (received p f h records i))
-      ]
-
-  pub taken_arrives : (number : ℕ) (payload : List ℕ) → IsFor p f h t (parsed octets) number payload → get_or payloads number None ≡ None
-      → (Taken 0 number ≡ arrives p h records t octets) × HoldsReceived p h (slice_set payloads number (Some payload)) arrived
-  taken_arrives number payload is before =
-      let none : received p f h records number ≡ None = sym (held number None is.within) ∙ before in (
-        sym (unfold_arrives p h records t octets ∙ is.answer records ∙ ap (λ o. cond (is_some o) (Repeat 0 number) (Taken 0 number)) none),
-        holds_for (slice_set payloads number (Some payload)) arrived
-            (ext_get_or None (slice_set payloads number (Some payload)) (all_received p f h arrived)
-            (length-set payloads number (Some payload) ∙ ap length (holds f first) ∙ length-map-range_with_len (received p f h records) 0 (run_packets p f h) ∙ sym (length-map-range_with_len (received p f h arrived) 0 (run_packets p f h)))
-            (λ i less.
-            let long : length (slice_set payloads number (Some payload)) ≡ run_packets p f h = length-set payloads number (Some payload) ∙ ap length (holds f first) ∙ length-map-range_with_len (received p f h records) 0 (run_packets p f h) in
-            set_place number payload is none i (omega (arith, long, less))
-            ∙ sym (get_or-map-range_with_len (received p f h arrived) 0 (run_packets p f h) i i None (omega (arith, long, less)) (omega arith)))),
-      )
+    -- of a packet that fits a flow
+    pub of_flow : length packet.payload ≡ f.frames * octets → IsOf p (Ok packet) place packet.seq packet.payload
+    of_flow size =
+        let right : (length packet.payload == f.frames * octets_of_frame p f) ≡ true = eq-eqb (length packet.payload) (f.frames * octets_of_frame p f) (size ∙ length_of) in record {
+          flow = f;
+          at = at;
+          length_is = size ∙ length_of;
+          brings = λ t. ap (λ b. cond b (Some (record { tick = t; seq = packet.seq; payload = packet.payload })) None)
+              (and_from (is_of_flow p f packet) (length packet.payload == f.frames * octets_of_frame p f)
+              (and_from (packet.sub == subtype_of p.mode) (packet.flow == f.id) (eq-eqb packet.sub (subtype_of p.mode) sub) (eq-eqb packet.flow f.id the_id)) right);
+          only = λ i t g read other. elsewhere i t g read other;
+          answered = λ h t records. here h t records
+              ∙ ap (λ b. cond b (answer_by place packet.seq (arrival_answer (window_of p f h) (arrivals_of p f records) (candidate_of (window_of p f h) t packet.seq))) (Size place (length packet.payload))) right;
+        }

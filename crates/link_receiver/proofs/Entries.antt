@@ -1,214 +1,377 @@
--- The entries of a carrier at a tick, in the plans that are played so far.
-use Rattle.std.proofs.Common.{◌≡◌, ℕ, zero, suc, ◌+◌, ◌-◌, ◌*◌, ◌/◌, ◌%◌, ◌^◌, ◌<◌, ◌≤◌, Bool, true, false, ◌&&◌, ◌||◌, nat_le, nat_lt, cond, List, [], ◌∷◌, ◌++◌, map, take, drop, length, ◌⊎◌, Option, Some, None, slice_get, get_or, append-nil, refl, sym, ap, ◌∙◌, subst, arith, inl, inr}
-use Rattle.std.specs.List.{list_any, range_with_len}
-use Rattle.std.specs.Option.{is_none, option_map}
-use Rattle.std.proofs.lemmas.Bool.{and_from, and_left, and_right, lt-leb, le-leb, lt-ltb, le-ltb}
-use Rattle.std.proofs.lemmas.Nat.{mul-le}
-use Rattle.std.proofs.lemmas.List.FromFn.{get_or-map-range_with_len}
-use Rattle.std.proofs.Math.Nat.{div-one, mod-one}
+-- What is kept of a carrier after a frame was played are its entries at that tick.
+use Rattle.std.proofs.Common.{◌≡◌, ℕ, zero, suc, ◌+◌, ◌-◌, ◌*◌, ◌/◌, ◌%◌, ◌<◌, ◌≤◌, Bool, true, false, ◌&&◌, nat_le, nat_lt, cond, List, [], map, find, length, min, Option, Some, None, slice_get, slice_index, slice_index_or, pos, refl, sym, ap, ◌∙◌, arith, inl, inr}
+use Rattle.std.specs.Int.{bit_at}
+use Rattle.std.specs.List.{HoldsAt, list_any, range_with_len}
+use Rattle.std.specs.Option.{is_none, is_some}
+use Rattle.std.proofs.lemmas.Bool.{and_from, and_left, and_right, cases_Bool, or_parts, lt-leb, le-leb, lt-ltb, le-ltb}
+use Rattle.std.proofs.lemmas.List.FromFn.{get_or-map-range_with_len, length-map-range_with_len}
+use Rattle.std.proofs.lemmas.Nat.{div-add-mod', div_below, mod-mul-add, mod_below}
+use Rattle.std.proofs.lemmas.Option.{slice_get-get_or}
 use Rattle.carrier_plan.specs.declared.plan.Carrier.{Carrier}
 use Rattle.carrier_plan.specs.declared.plan.Flow.{Flow}
 use Rattle.carrier_plan.specs.declared.plan.Plan.{Plan}
-use Rattle.link_base.specs.Bits.{bit_of}
-use Rattle.plan_checker.specs.Flows.{octets_of_frame}
-use Rattle.plan_checker.specs.Run.{delay_of, samples_due}
-use Rattle.plan_checker.specs.Packets.{run_packets}
-use Rattle.plan_checker.specs.Place.{place_of}
-use Rattle.plan_checker.specs.Rules.{IsGood}
-use Rattle.sample_bits.specs.declared.iq.RawIq.{RawIq}
-use Rattle.sample_bits.proofs.OctetLemmas.{bit_of-take}
-use Rattle.link_receiver.specs.Block.{sample_in, block_entry, start_of}
-use Rattle.link_receiver.specs.declared.session.Entry.{Entry}
-use Rattle.link_receiver.specs.Output.{bit_if_received, bit_of_part, bit_at_place, is_marked, value_in, value_of, entry_of, entries_handed_in, entries_by, entries_of}
-use Rattle.link_receiver.specs.Received.{received, part_of_frame, is_missed}
 use Rattle.link_base.specs.Record.{Record}
-use Rattle.link_receiver.specs.Samples.{sample_of_bits}
-use Rattle.link_receiver.specs.Sessions.{HoldsReceived}
-use Rattle.link_receiver.specs.Simple.{IsSimple}
-use Rattle.link_receiver.proofs.SampleOfBits.{sample_of_bits-same}
-use Rattle.link_receiver.proofs.SimplePlans.{bit_within, IsTheFlow, IsSimpleCarrier, find-lists, octets_of_frame-simple, word_size-simple, simple_carrier, the_flow, first_flow, run_packets-simple, samples_before-simple, samples_due-simple, place_of-due}
+use Rattle.link_receiver_blocks.specs.Containers as blocks
+use Rattle.link_receiver_blocks.specs.Containers.{Container, mapping_of, sample_of_block, samples_left, unless_marked}
+use Rattle.plan_checker.specs.Container.{container_size}
+use Rattle.plan_checker.specs.Flows.{lists}
+use Rattle.plan_checker.specs.Place.{BitPlace, iq_bit, place_in_block, place_of}
+use Rattle.plan_checker.specs.Rules.{IsGood}
+use Rattle.plan_checker.specs.Run.{delay_of, samples_before, samples_due}
+use Rattle.roe_mappers.specs.Parts.{part_bit}
+use Rattle.roe_mappers.specs.Symbols.{bad_symbol}
+use Rattle.sample_bits.specs.SampleOfBits.{sample_of_bits}
+use Rattle.sample_bits.specs.declared.iq.RawIq.{RawIq}
+use Rattle.sample_bits.proofs.SampleOfBits.{sample_of_bits-same}
+use Rattle.link_receiver.specs.Containers.{bits_of_container, block_start, container_by, container_of_frame}
+use Rattle.link_receiver.specs.Output.{bit_if_received, bit_at_place, entries_by, entries_handed_in, entries_of, entry_of, is_marked, value_in, value_of}
+use Rattle.link_receiver.specs.Received.{is_missed, is_missed_by, part_of_frame}
+use Rattle.link_receiver.specs.Runs.{KeepsLeaving, entries_of_kept, entries_of_run, entry_of_run}
+use Rattle.link_receiver.specs.declared.carrier_in_hand.CarrierInHand.{CarrierInHand}
+use Rattle.link_receiver.specs.declared.entry.Entry.{Entry}
+use Rattle.link_receiver.proofs.Blocks.{block_start-at, containers_with, containers_with-range, length-containers_with}
+use Rattle.link_receiver.proofs.Places.{IsGoodCarrier, delay_of-carrier, good_carrier, leaves_in_time, leaves_within, place_of-block, places_within, samples_before-block, samples_before-carrier}
+use Rattle.link_receiver.proofs.Ranges.{list_any-range, map-ranges}
 
-or_false : (v : Bool) → (v || false) ≡ v
-or_false true = refl
-or_false false = refl
+-- ---- lists
 
-or_self : (v : Bool) → (v || v) ≡ v
-or_self true = refl
-or_self false = refl
+slice_get-map-range : {X : Type 0} (f : ℕ → X) (a n i : ℕ) → i < n → slice_get (map f (range_with_len a n)) i ≡ Some (f (a + i))
+slice_get-map-range f a n i low =
+    let long = length-map-range_with_len f a n in
+    slice_get-get_or (map f (range_with_len a n)) i (f a) (omega arith)
+    ∙ ap Some (get_or-map-range_with_len f a n i (a + i) (f a) low refl)
 
-is_none-option_map : {A B : Type 0} (g : A → B) (o : Option A) → is_none (option_map g o) ≡ is_none o
-is_none-option_map g None = refl
-is_none-option_map g (Some x) = refl
+-- a test that fails on a range fails at each number of it
+pub fails_each : (g : ℕ → Bool) (a n : ℕ) → list_any g (range_with_len a n) ≡ false → (r : ℕ) → r < n → g (a + r) ≡ false
+fails_each g a zero fails r less = absurd (omega arith)
+fails_each g a (suc n) fails zero less =
+    let here : a + 0 ≡ a = omega arith in
+    ap g here ∙ (or_parts (g a) (list_any g (range_with_len (a + 1) n)) fails).0
+fails_each g a (suc n) fails (suc r) less =
+    let next : a + (suc r) ≡ a + 1 + r = omega arith in
+    ap g next ∙ fails_each g (a + 1) n (or_parts (g a) (list_any g (range_with_len (a + 1) n)) fails).1 r (omega arith)
 
--- a test that gives one answer on a range
-pub list_any-const : (g : ℕ → Bool) (v : Bool) (a n : ℕ) → ((b : ℕ) → b < suc n → g (a + b) ≡ v) → list_any g (range_with_len a (suc n)) ≡ v
-list_any-const g v a zero each =
-    let here : a ≡ a + 0 = omega arith in
-    ap (λ x. g x || false) here ∙ ap (λ t. t || false) (each 0 (omega arith)) ∙ or_false v
-list_any-const g v a (suc n) each =
-    let here : a ≡ a + 0 = omega arith in
-    let rest = list_any-const g v (a + 1) n (λ b less. let next : a + 1 + b ≡ a + (b + 1) = omega arith in ap g next ∙ each (b + 1) (omega arith)) in
-    ap (λ x. g x || list_any g (range_with_len (a + 1) (suc n))) here ∙ ap (λ t. t || list_any g (range_with_len (a + 1) (suc n))) (each 0 (omega arith))
-    ∙ ap (λ t. v || t) rest ∙ or_self v
+-- ---- a container of a frame
 
--- two functions that agree on two ranges of the same length
-pub map-ranges : {X : Type 0} (f g : ℕ → X) (a b n : ℕ) → ((r : ℕ) → r < n → f (a + r) ≡ g (b + r)) → map f (range_with_len a n) ≡ map g (range_with_len b n)
-map-ranges f g a b zero each = refl
-map-ranges f g a b (suc n) each =
-    let first : a ≡ a + 0 = omega arith in
-    let other : b + 0 ≡ b = omega arith in
-    let head : f a ≡ g b = ap f first ∙ each 0 (omega arith) ∙ ap g other in
-    let rest = map-ranges f g (a + 1) (b + 1) n (λ r less.
-    let left : a + 1 + r ≡ a + (r + 1) = omega arith in
-    let right : b + (r + 1) ≡ b + 1 + r = omega arith in
-    ap f left ∙ each (r + 1) (omega arith) ∙ ap g right) in
-    ap (λ x. x ∷ map f (range_with_len (a + 1) n)) head ∙ ap (λ xs. g b ∷ xs) rest
+is_none-unless : {X : Type 0} (missed : Bool) (x : X) → is_none (cond missed None (Some x)) ≡ missed
+is_none-unless true x = refl
+is_none-unless false x = refl
+
+is_none-by : (p : Plan) (f : Flow) (carrier : Carrier) (n : ℕ) (part : Option (List ℕ)) → is_none (container_by p f carrier n part) ≡ is_missed_by p n part
+is_none-by p f carrier n None = refl
+is_none-by p f carrier n (Some part) = is_none-unless (is_some (bad_symbol p.mode n part)) (bits_of_container p f carrier part)
+
+bit-unless : (missed : Bool) (bits : List ℕ) (b : ℕ) → missed ≡ false → blocks.bit_of_container (cond missed None (Some bits)) b ≡ slice_index bits b
+bit-unless missed bits b good = ap (λ m. blocks.bit_of_container (cond m None (Some bits)) b) good
+
+bit-by : (p : Plan) (f : Flow) (carrier : Carrier) (n b : ℕ) (part : Option (List ℕ)) → is_missed_by p n part ≡ false → b < container_size carrier
+    → blocks.bit_of_container (container_by p f carrier n part) b ≡ bit_if_received p f (iq_bit carrier.pieces b) part
+bit-by p f carrier n b None good low = refl
+bit-by p f carrier n b (Some part) good low =
+    bit-unless (is_some (bad_symbol p.mode n part)) (bits_of_container p f carrier part) b good
+    ∙ get_or-map-range_with_len (λ x. part_bit p f part (iq_bit carrier.pieces x)) 0 (container_size carrier) b b 0 low (omega arith)
+
+is_none-container : (p : Plan) (f : Flow) (h : ℕ) (records : List Record) (carrier : Carrier) (n : ℕ) → is_none (container_of_frame p f h records carrier n) ≡ is_missed p f h records n
+unfolding container_of_frame
+is_none-container p f h records carrier n = is_none-by p f carrier n (part_of_frame p f h records n)
+
+bit-container : (p : Plan) (f : Flow) (h : ℕ) (records : List Record) (carrier : Carrier) (n b : ℕ) → is_missed p f h records n ≡ false → b < container_size carrier
+    → blocks.bit_of_container (container_of_frame p f h records carrier n) b ≡ bit_if_received p f (iq_bit carrier.pieces b) (part_of_frame p f h records n)
+unfolding container_of_frame
+bit-container p f h records carrier n b good low = bit-by p f carrier n b (part_of_frame p f h records n) good low
 
 abbrev pub the_entry : ℕ → ℕ → ℕ → Option RawIq → Entry
 the_entry t c j value = record { tick = t; carrier = c; number = j; value = value }
 
-module _ (p : Plan) (h : ℕ) (records : List Record) (f : Flow) (c : ℕ) (carrier : Carrier) (good : IsGood p) (simple : IsSimple p) (the : IsTheFlow p f)
-    (lt : c < length p.carriers) (read : slice_get p.carriers c ≡ Some carrier) where
-  is : IsSimpleCarrier carrier
-  is = simple_carrier p c carrier good simple read
+-- ---- a sample of a block, of which the frames up to one were played
 
-  abbrev part_by : ℕ → ℕ → ℕ → Option (List ℕ)
-  part_by n frames octets = option_map (λ payload. take octets (drop (n % frames * octets) payload)) (received p f h records (n / frames))
+module _ (p : Plan) (f : Flow) (h : ℕ) (records : List Record) (c : ℕ) (carrier : Carrier) (is : IsGoodCarrier p c carrier) (block φ : ℕ) where
+  abbrev of_frame : ℕ → Container
+  of_frame = container_of_frame p f h records carrier
 
-  -- the octets of a frame are the first of the payload of its packet
-  part-simple : (n : ℕ) → part_of_frame p f h records n ≡ option_map (take 16) (received p f h records n)
-  part-simple n =
-      ap (λ frames. part_by n frames (octets_of_frame p f)) the.frames
-      ∙ ap (λ octets. part_by n 1 octets) (octets_of_frame-simple p f simple)
-      ∙ ap (λ k. option_map (λ payload. take 16 (drop (k * 16) payload)) (received p f h records (n / 1))) (mod-one n)
-      ∙ ap (λ i. option_map (take 16) (received p f h records i)) (div-one n)
+  -- the containers of the block that were played
+  abbrev pub played : List Container
+  played = map of_frame (range_with_len ((block + 1) * carrier.k) (φ + 1))
 
-  marked-simple : (n r : ℕ) → r < carrier.s → is_marked p f h records carrier (n * carrier.s + r) ≡ is_none (received p f h records (n + 1))
-  marked-simple n r low =
-      let j = n * carrier.s + r in
-      let test : ℕ → Bool = (λ b. is_missed p f h records (place_of carrier j b).frame) in
-      let wide = is.wide in
-      let some : 2 * carrier.m ≡ suc (2 * carrier.m - 1) = omega arith in
-      ap (λ count. list_any test (range_with_len 0 count)) some
-      ∙ list_any-const test (is_none (received p f h records (n + 1))) 0 (2 * carrier.m - 1) (λ b less.
-      let zero_more : 0 + b ≡ b = omega arith in
-      ap test zero_more ∙ ap (λ place. is_missed p f h records place.frame) (place_of-due carrier n r b is low (omega arith))
-      ∙ ap is_none (part-simple (n + 1)) ∙ is_none-option_map (take 16) (received p f h records (n + 1)))
+  abbrev phase_of : ℕ → ℕ → ℕ
+  phase_of r b = (place_in_block carrier.method carrier.m carrier.s carrier.k r b).phase
 
-  bit-simple : (n r b : ℕ) (payload : List ℕ) → r < carrier.s → b < 2 * carrier.m → received p f h records (n + 1) ≡ Some payload
-      → bit_at_place p f h records (place_of carrier (n * carrier.s + r) b) ≡ bit_of payload (8 + start_of carrier + 2 * carrier.m * r + b)
-  bit-simple n r b payload low less e =
-      let x = start_of carrier + (2 * carrier.m * r + b) in
-      let inside = bit_within carrier.m carrier.s r b low less in
-      let size = is.size in
-      let within = is.within in
-      let place : 8 * 1 + x ≡ 8 + start_of carrier + 2 * carrier.m * r + b = omega arith in
-      ap (bit_at_place p f h records) (place_of-due carrier n r b is low less)
-      ∙ ap (bit_if_received p x) (part-simple (n + 1) ∙ ap (option_map (take 16)) e)
-      ∙ ap (λ mode. bit_of_part mode p (take 16 payload) x) simple.mode
-      ∙ ap (λ y. bit_of (take 16 payload) (8 * y + x)) (word_size-simple p simple)
-      ∙ bit_of-take 16 payload (8 * 1 + x) (omega arith)
-      ∙ ap (bit_of payload) place
+  abbrev bit_of_place : ℕ → ℕ → ℕ
+  bit_of_place r b = (place_in_block carrier.method carrier.m carrier.s carrier.k r b).bit
 
-  value-by : (n r : ℕ) (o : Option (List ℕ)) → r < carrier.s → received p f h records (n + 1) ≡ o
-      → value_in p (Some f) h records carrier (n * carrier.s + r) ≡ sample_in carrier o r
-  value-by n r None low e =
-      let j = n * carrier.s + r in
-      let found = sample_of_bits carrier.m (λ b. bit_at_place p f h records (place_of carrier j b)) in
-      ap (λ t. cond t None (Some found)) (marked-simple n r low ∙ ap is_none e)
-  value-by n r (Some payload) low e =
-      let j = n * carrier.s + r in
-      let bits : ℕ → ℕ = (λ b. bit_at_place p f h records (place_of carrier j b)) in
-      ap (λ t. cond t None (Some (sample_of_bits carrier.m bits))) (marked-simple n r low ∙ ap is_none e)
-      ∙ ap Some (sample_of_bits-same carrier.m bits (λ b. bit_of payload (8 + start_of carrier + 2 * carrier.m * r + b)) (λ b less. bit-simple n r b payload low less e))
+  container_at-played : (phase : ℕ) → phase ≤ φ → blocks.container_at played phase ≡ of_frame ((block + 1) * carrier.k + phase)
+  container_at-played phase low = ap blocks.container_by (slice_get-map-range of_frame ((block + 1) * carrier.k) (φ + 1) phase (omega arith))
 
-  value-simple : (n r : ℕ) → r < carrier.s → value_of p h records c carrier (n * carrier.s + r) ≡ sample_in carrier (received p f h records (n + 1)) r
-  unfolding value_of
-  value-simple n r low =
-      ap (λ o. value_in p o h records carrier (n * carrier.s + r)) (find-lists p f c the lt)
-      ∙ value-by n r (received p f h records (n + 1)) low refl
+  module _ (r : ℕ) (low : r < carrier.s) (left : r < (φ + 1) * carrier.s / carrier.k) where
+    abbrev number : ℕ
+    number = block * carrier.s + r
 
-  -- the entry of the first sample of a block
-  abbrev pub first_entry : ℕ → ℕ → Entry
-  first_entry t n = record { tick = t; carrier = c; number = n * carrier.s; value = None }
+    frame-of : (b : ℕ) → (place_of carrier number b).frame ≡ (block + 1) * carrier.k + phase_of r b
+    frame-of b = ap (λ (x : BitPlace). x.frame) (place_of-block carrier block r b low)
 
-  handed_in-simple : (t n : ℕ) → entries_handed_in p h records t c carrier n ≡ map (block_entry carrier (received p f h records (n + 1)) (first_entry t n)) (range_with_len 0 carrier.s)
-  handed_in-simple t n =
-      let entry = entry_of p h records t c carrier in
-      let block = block_entry carrier (received p f h records (n + 1)) (first_entry t n) in
-      ap (λ first. map entry (range_with_len first (samples_due p c n))) (samples_before-simple p c carrier n good simple read)
-      ∙ ap (λ count. map entry (range_with_len (n * carrier.s) count)) (samples_due-simple p c carrier n good simple read)
-      ∙ map-ranges entry block (n * carrier.s) 0 carrier.s (λ r low.
-      let zero_more : r ≡ 0 + r = omega arith in
-      ap (λ value. the_entry t c (n * carrier.s + r) value) (value-simple n r low) ∙ ap block zero_more)
+    phase-low : (b : ℕ) → b < 2 * carrier.m → phase_of r b ≤ φ
+    phase-low b small = leaves_in_time carrier.method carrier.m carrier.s carrier.k r b φ is.width is.rate is.some_frames low small left
 
-  pub entries-of_block : (t : ℕ) → delay_of p c ≤ t → t - delay_of p c < h
-      → entries_of p h records t c ≡ map (block_entry carrier (received p f h records (t - delay_of p c + 1)) (first_entry t (t - delay_of p c))) (range_with_len 0 carrier.s)
+    missed-same : (b : ℕ) → b < 2 * carrier.m
+        → is_missed p f h records (place_of carrier number b).frame ≡ is_none (blocks.container_at played (phase_of r b))
+    missed-same b small =
+        ap (is_missed p f h records) (frame-of b)
+        ∙ sym (is_none-container p f h records carrier ((block + 1) * carrier.k + phase_of r b))
+        ∙ sym (ap is_none (container_at-played (phase_of r b) (phase-low b small)))
+
+    marked-same : is_marked p f h records carrier number ≡ blocks.is_marked (mapping_of carrier) played r
+    marked-same =
+        list_any-range (λ b. is_missed p f h records (place_of carrier number b).frame) (λ b. is_none (blocks.container_at played (phase_of r b)))
+        0 (2 * carrier.m) (λ b small. missed-same (0 + b) (omega arith))
+
+    bit-same : (b : ℕ) → b < 2 * carrier.m → is_missed p f h records (place_of carrier number b).frame ≡ false
+        → bit_at_place p f h records (place_of carrier number b) ≡ blocks.bit_at_place played (place_in_block carrier.method carrier.m carrier.s carrier.k r b)
+    bit-same b small good =
+        let frame = (block + 1) * carrier.k + phase_of r b in
+        let bit = bit_of_place r b in
+        let within = places_within carrier.method carrier.m carrier.s carrier.k r b is.width is.rate low small in
+        let size = is.size.prescribed in
+        let inside : bit < container_size carrier = omega (arith, within.1, size) in
+        let here : is_missed p f h records frame ≡ false = sym (ap (is_missed p f h records) (frame-of b)) ∙ good in
+        ap (bit_at_place p f h records) (place_of-block carrier block r b low)
+        ∙ sym (bit-container p f h records carrier frame bit here inside)
+        ∙ sym (ap (λ x. blocks.bit_of_container x bit) (container_at-played (phase_of r b) (phase-low b small)))
+
+    abbrev sample_here : RawIq
+    sample_here = sample_of_bits carrier.m (λ b. bit_at_place p f h records (place_of carrier number b))
+
+    abbrev sample_there : RawIq
+    sample_there = sample_of_bits carrier.m (λ b. blocks.bit_at_place played (place_in_block carrier.method carrier.m carrier.s carrier.k r b))
+
+    sample-same : is_marked p f h records carrier number ≡ false → sample_here ≡ sample_there
+    sample-same unmarked =
+        sample_of_bits-same carrier.m (λ b. bit_at_place p f h records (place_of carrier number b))
+        (λ b. blocks.bit_at_place played (place_in_block carrier.method carrier.m carrier.s carrier.k r b))
+        (λ b small.
+        let zero_more : b ≡ 0 + b = omega arith in
+        let each = fails_each (λ x. is_missed p f h records (place_of carrier number x).frame) 0 (2 * carrier.m) unmarked b small in
+        bit-same b small (ap (λ x. is_missed p f h records (place_of carrier number x).frame) zero_more ∙ each))
+
+    chosen : (here there : Bool) → is_marked p f h records carrier number ≡ here → here ≡ there
+        → cond here None (Some sample_here) ≡ cond there None (Some sample_there)
+    chosen here there is_here same = elim (cases_Bool here) [
+      | inl marked ↦ ap (λ m. cond m None (Some sample_here)) marked ∙ ap (λ m. cond m None (Some sample_there)) (sym marked ∙ same)
+      | inr unmarked ↦
+          ap (λ m. cond m None (Some sample_here)) unmarked ∙ ap Some (sample-same (is_here ∙ unmarked))
+          ∙ ap (λ m. cond m None (Some sample_there)) (sym unmarked ∙ same)
+    ]
+
+    pub value-block : value_in p (Some f) h records carrier number ≡ sample_of_block (mapping_of carrier) played r
+    unfolding sample_of_block
+    value-block = chosen (is_marked p f h records carrier number) (blocks.is_marked (mapping_of carrier) played r) refl marked-same
+
+-- ---- the entries of a tick
+
+module _ (p : Plan) (h : ℕ) (records : List Record) (c : ℕ) (carrier : Carrier) (is : IsGoodCarrier p c carrier) (read : slice_get p.carriers c ≡ Some carrier) where
+  entries-if : (t : ℕ) (inside : Bool) → (nat_le (delay_of p c) t && nat_lt (t - delay_of p c) h) ≡ inside
+      → entries_of p h records t c ≡ cond inside (entries_handed_in p h records t c carrier (t - delay_of p c)) []
   unfolding entries_of
-  entries-of_block t late early =
-      let n = t - delay_of p c in
-      let both : (nat_le (delay_of p c) t && nat_lt n h) ≡ true = and_from (nat_le (delay_of p c) t) (nat_lt n h) (le-leb (delay_of p c) t late) (lt-ltb n h early) in
-      ap (entries_by p h records t c) read
-      ∙ ap (λ t'. cond t' (entries_handed_in p h records t c carrier n) []) both
-      ∙ handed_in-simple t n
+  entries-if t inside is_inside =
+      ap (entries_by p h records t c) read ∙ ap (λ b. cond b (entries_handed_in p h records t c carrier (t - delay_of p c)) []) is_inside
 
-  pub entries-of_none : (t : ℕ) → (t < delay_of p c) ⊎ (h ≤ t - delay_of p c) → entries_of p h records t c ≡ []
-  unfolding entries_of
-  entries-of_none t outside =
-      let n = t - delay_of p c in
-      let none : (nat_le (delay_of p c) t && nat_lt n h) ≡ false = elim outside [
-        | inl early ↦ and_left (nat_le (delay_of p c) t) (nat_lt n h) (lt-leb (delay_of p c) t early)
-        | inr late ↦ and_right (nat_le (delay_of p c) t) (nat_lt n h) (le-ltb n h late)
-      ] in
-      ap (entries_by p h records t c) read ∙ ap (λ t'. cond t' (entries_handed_in p h records t c carrier n) []) none
+  entries-inside : (t n : ℕ) → p.playout + carrier.k + n ≡ t → n < h → entries_of p h records t c ≡ entries_handed_in p h records t c carrier n
+  entries-inside t n at inside =
+      let delay = delay_of-carrier p c carrier is in
+      let gap : t - delay_of p c ≡ n = omega arith in
+      let late : delay_of p c ≤ t = omega arith in
+      let early : t - delay_of p c < h = omega arith in
+      entries-if t true (and_from (nat_le (delay_of p c) t) (nat_lt (t - delay_of p c) h) (le-leb (delay_of p c) t late) (lt-ltb (t - delay_of p c) h early))
+      ∙ ap (entries_handed_in p h records t c carrier) gap
 
--- a carrier of a plan, as the code reads it
-pub record IsRead (p : Plan) (c : ℕ) (carrier : Carrier) : Type 0 where
-  pub good : IsGood p
-  pub read : slice_get p.carriers c ≡ Some carrier
-  pub is_simple : IsSimpleCarrier carrier
+  -- before the first sample can leave
+  pub entries_of-early : (t : ℕ) → t < p.playout + carrier.k → entries_of p h records t c ≡ []
+  entries_of-early t early =
+      let delay = delay_of-carrier p c carrier is in
+      entries-if t false (and_left (nat_le (delay_of p c) t) (nat_lt (t - delay_of p c) h) (lt-leb (delay_of p c) t (omega arith)))
 
-pub is_read : (q p : Plan) (c : ℕ) (carrier : Carrier) → q ≡ p → IsGood q → IsSimple p → slice_get q.carriers c ≡ Some carrier → IsRead p c carrier
-is_read q p c carrier same good simple read =
-    let good_here : IsGood p = subst IsGood same good in
-    let read_here : slice_get p.carriers c ≡ Some carrier = subst (λ plan. slice_get plan.carriers c ≡ Some carrier) same read in
-    record { good = good_here; read = read_here; is_simple = simple_carrier p c carrier good_here simple read_here }
+  -- and after the last
+  pub entries_of-past : (t : ℕ) → p.playout + carrier.k + h ≤ t → entries_of p h records t c ≡ []
+  entries_of-past t past =
+      let delay = delay_of-carrier p c carrier is in
+      entries-if t false (and_right (nat_le (delay_of p c) t) (nat_lt (t - delay_of p c) h) (le-ltb (t - delay_of p c) h (omega arith)))
 
--- the payload at a place of what is held
-pub held_payload : (p : Plan) (h : ℕ) (payloads : List (Option (List ℕ))) (records : List Record) (f : Flow) (i : ℕ) (d : Option (List ℕ)) → IsGood p → IsSimple p → IsTheFlow p f
-    → HoldsReceived p h payloads records → i < h + 1 → get_or payloads i d ≡ received p f h records i
-held_payload p h payloads records f i d good simple the holds less =
-    let count = run_packets-simple p f h good simple the in
-    ap (λ xs. get_or xs i d) (holds f (first_flow p f the))
-    ∙ get_or-map-range_with_len (received p f h records) 0 (run_packets p f h) i i d (omega arith) (omega arith)
+  -- how many samples are handed in at frame φ of a block
+  due-of_block : (block φ count : ℕ) → φ * carrier.s / carrier.k + count ≡ (φ + 1) * carrier.s / carrier.k → samples_due p c (block * carrier.k + φ) ≡ count
+  due-of_block block φ count counted =
+      let first = samples_before-block p c carrier is block φ in
+      let next = samples_before-block p c carrier is block (φ + 1) in
+      let place : block * carrier.k + φ + 1 ≡ block * carrier.k + (φ + 1) = omega arith in
+      let after : samples_before p c (block * carrier.k + φ + 1) ≡ block * carrier.s + (φ + 1) * carrier.s / carrier.k = ap (samples_before p c) place ∙ next in
+      omega arith
 
--- the entry of the first sample of a block of s samples, by the delay
-abbrev first_by : ℕ → ℕ → ℕ → ℕ → Entry
-first_by t c delay s = record { tick = t; carrier = c; number = (t - delay) * s; value = None }
+  module _ (f : Flow) (found : find (lists c) p.flows ≡ Some f) (t block φ : ℕ) (low : φ < carrier.k) where
+    value-of_block : (r : ℕ) → r < (φ + 1) * carrier.s / carrier.k
+        → value_of p h records c carrier (block * carrier.s + r) ≡ sample_of_block (mapping_of carrier) (played p f h records c carrier is block φ) r
+    unfolding value_of
+    value-of_block r left =
+        let within = leaves_within r φ carrier.s carrier.k is.rate.some_samples is.some_frames low left in
+        ap (λ o. value_in p o h records carrier (block * carrier.s + r)) found ∙ value-block p f h records c carrier is block φ r within left
 
-abbrev block_by : Carrier → List (Option (List ℕ)) → ℕ → ℕ → ℕ → ℕ → List Entry
-block_by carrier payloads t c delay s = map (block_entry carrier (get_or payloads (t - delay + 1) None) (first_by t c delay s)) (range_with_len 0 carrier.s)
+    run-of_block : (number count marks : ℕ) (samples : List RawIq)
+        → φ * carrier.s / carrier.k + count ≡ (φ + 1) * carrier.s / carrier.k → number ≡ samples_before p c (block * carrier.k + φ)
+        → ((i : ℕ) → i < count → HoldsAt (λ v. unless_marked (bit_at marks i) v ≡ sample_of_block (mapping_of carrier) (played p f h records c carrier is block φ) (φ * carrier.s / carrier.k + i)) samples i)
+        → entries_of_run t c number marks samples count ≡ entries_handed_in p h records t c carrier (block * carrier.k + φ)
+    run-of_block number count marks samples counted numbered each =
+        let m = block * carrier.k + φ in
+        let r0 = φ * carrier.s / carrier.k in
+        let first = samples_before-block p c carrier is block φ in
+        let due = due-of_block block φ count counted in
+        let run = entry_of_run t c number marks samples in
+        let entry = entry_of p h records t c carrier in
+        map-ranges run entry 0 (samples_before p c m) count (λ i less.
+        let place : number + (0 + i) ≡ samples_before p c m + i = omega arith in
+        let zero_more : 0 + i ≡ i = omega arith in
+        let sum : samples_before p c m + i ≡ block * carrier.s + (r0 + i) = omega arith in
+        let nothing : RawIq = record { i = pos 0; q = pos 0 } in
+        let value : unless_marked (bit_at marks (0 + i)) (slice_index_or samples (0 + i) nothing) ≡ value_of p h records c carrier (samples_before p c m + i)
+        = ap (λ k. unless_marked (bit_at marks k) (slice_index_or samples k nothing)) zero_more
+        ∙ each i less nothing ∙ sym (ap (value_of p h records c carrier) sum ∙ value-of_block (r0 + i) (omega arith)) in
+        ap (λ k. the_entry t c k (unless_marked (bit_at marks (0 + i)) (slice_index_or samples (0 + i) nothing))) place
+        ∙ ap (the_entry t c (samples_before p c m + i)) value)
+        ∙ ap (λ k. map entry (range_with_len (samples_before p c m) k)) (sym due)
 
-pub block_played : (p : Plan) (h : ℕ) (payloads : List (Option (List ℕ))) (records : List Record) (c : ℕ) (carrier : Carrier) (t delay s : ℕ)
-    → IsRead p c carrier → IsSimple p → c < length p.carriers → HoldsReceived p h payloads records → delay ≡ delay_of p c → s ≡ carrier.s
-    → delay ≤ t → t - delay < h → block_by carrier payloads t c delay s ≡ entries_of p h records t c
-block_played p h payloads records c carrier t delay s r simple lt holds is_delay is_s late early =
-    let flow = the_flow p r.good simple in
-    let f = flow.0 in
-    let n = t - delay_of p c in
-    let late_here : delay_of p c ≤ t = omega arith in
-    let early_here : n < h = subst (λ d. t - d < h) is_delay early in
-    let held = held_payload p h payloads records f (n + 1) None r.good simple flow.1 holds (omega arith) in
-    ap (λ d. block_by carrier payloads t c d s) is_delay
-    ∙ ap (λ k. block_by carrier payloads t c (delay_of p c) k) is_s
-    ∙ ap (λ payload. map (block_entry carrier payload (first_by t c (delay_of p c) carrier.s)) (range_with_len 0 carrier.s)) held
-    ∙ sym (entries-of_block p h records f c carrier r.good simple flow.1 lt r.read t late_here early_here)
+-- what is kept of no sample has no entry
+pub entries_of_kept-none : (t c : ℕ) (kept : CarrierInHand) → kept.count ≡ 0 → entries_of_kept t c kept ≡ []
+entries_of_kept-none t c kept none = ap (entries_of_run t c kept.number kept.marks kept.samples.items) none
 
-pub none_played : (p : Plan) (h : ℕ) (records : List Record) (c : ℕ) (carrier : Carrier) (t : ℕ) (xs : List Entry)
-    → IsRead p c carrier → IsSimple p → c < length p.carriers → (t < delay_of p c) ⊎ (h ≤ t - delay_of p c) → xs ≡ xs ++ entries_of p h records t c
-none_played p h records c carrier t xs r simple lt outside =
-    let flow = the_flow p r.good simple in
-    sym (append-nil xs) ∙ ap (λ ys. xs ++ ys) (sym (entries-of_none p h records flow.0 c carrier r.good simple flow.1 lt r.read t outside))
+-- ---- the frame that was played
 
-pub number_small : (b s : ℕ) → b < 2 ^ 40 → s ≤ 32 → b * s ≤ 2 ^ 60
-number_small b s few small = let product = mul-le b s (2 ^ 40) 32 (omega arith) small in omega arith
+-- a frame n that is not of the first block is frame φ of the block after one
+frame-split : (n k : ℕ) → 1 ≤ k → k ≤ n → n ≡ ((n - k) / k + 1) * k + (n - k) % k
+frame-split n k some after = omega (arith, div-add-mod' (n - k) k)
+
+module _ (p : Plan) (f : Flow) (h : ℕ) (records : List Record) (c : ℕ) (carrier : Carrier) (is : IsGoodCarrier p c carrier) (n : ℕ) (after : carrier.k ≤ n) where
+  abbrev block_before : ℕ
+  block_before = (n - carrier.k) / carrier.k
+
+  abbrev phase_before : ℕ
+  phase_before = (n - carrier.k) % carrier.k
+
+  phase-small : phase_before < carrier.k
+  phase-small = mod_below (n - carrier.k) carrier.k is.some_frames
+
+  phase-same : n % carrier.k ≡ phase_before
+  phase-same =
+      ap (λ x. x % carrier.k) (frame-split n carrier.k is.some_frames after) ∙ mod-mul-add (block_before + 1) carrier.k phase_before phase-small
+
+  start-same : block_start carrier.k n ≡ (block_before + 1) * carrier.k
+  start-same = ap (block_start carrier.k) (frame-split n carrier.k is.some_frames after) ∙ block_start-at carrier.k (block_before + 1) phase_before phase-small
+
+  played-same : containers_with p f h records carrier n ≡ played p f h records c carrier is block_before phase_before
+  played-same =
+      containers_with-range p f h records carrier n
+      ∙ ap (λ from. map (container_of_frame p f h records carrier) (range_with_len from (n % carrier.k + 1))) start-same
+      ∙ ap (λ phase. map (container_of_frame p f h records carrier) (range_with_len ((block_before + 1) * carrier.k) (phase + 1))) phase-same
+
+  abbrev containers : List Container
+  containers = containers_with p f h records carrier n
+
+  length-same : length containers ≡ phase_before + 1
+  length-same = length-containers_with p f h records carrier n ∙ ap (λ phase. phase + 1) phase-same
+
+  left-before : samples_left (mapping_of carrier) (length containers - 1) ≡ phase_before * carrier.s / carrier.k
+  left-before =
+      let less : phase_before + 1 - 1 ≡ phase_before = omega arith in
+      ap (λ count. samples_left (mapping_of carrier) (count - 1)) length-same ∙ ap (samples_left (mapping_of carrier)) less
+
+  left-with : samples_left (mapping_of carrier) (length containers) ≡ (phase_before + 1) * carrier.s / carrier.k
+  left-with = ap (samples_left (mapping_of carrier)) length-same
+
+  module _ (kept : CarrierInHand) (keeps : KeepsLeaving (mapping_of carrier) containers kept) where
+    kept-counted : phase_before * carrier.s / carrier.k + kept.count ≡ (phase_before + 1) * carrier.s / carrier.k
+    kept-counted = ap (λ x. x + kept.count) (sym left-before) ∙ keeps.count ∙ left-with
+
+    -- the samples that leave are those between two frames
+    kept-between : samples_before p c (n - carrier.k) + kept.count ≡ samples_before p c (n - carrier.k + 1)
+    kept-between =
+        let here : n - carrier.k ≡ block_before * carrier.k + phase_before = sym (div-add-mod' (n - carrier.k) carrier.k) in
+        let there : n - carrier.k + 1 ≡ block_before * carrier.k + (phase_before + 1) = omega arith in
+        let first = ap (samples_before p c) here ∙ samples_before-block p c carrier is block_before phase_before in
+        let next = ap (samples_before p c) there ∙ samples_before-block p c carrier is block_before (phase_before + 1) in
+        omega (arith, first, next, kept-counted)
+
+    kept-handed_in : (t : ℕ) → find (lists c) p.flows ≡ Some f → slice_get p.carriers c ≡ Some carrier → kept.number ≡ samples_before p c (n - carrier.k)
+        → entries_of_kept t c kept ≡ entries_handed_in p h records t c carrier (n - carrier.k)
+    kept-handed_in t found read numbered =
+        let here : n - carrier.k ≡ block_before * carrier.k + phase_before = sym (div-add-mod' (n - carrier.k) carrier.k) in
+        let there = played p f h records c carrier is block_before phase_before in
+        let first = samples_left (mapping_of carrier) (length containers - 1) in
+        run-of_block p h records c carrier is read f found t block_before phase_before phase-small kept.number kept.count kept.marks kept.samples.items
+        kept-counted (numbered ∙ ap (samples_before p c) here)
+        (λ i less d. keeps.read i less d ∙ ap (λ xs. sample_of_block (mapping_of carrier) xs (first + i)) played-same
+        ∙ ap (λ x. sample_of_block (mapping_of carrier) there (x + i)) left-before)
+        ∙ ap (entries_handed_in p h records t c carrier) (sym here)
+
+-- ---- what is kept of a carrier after frame n was played at tick t, by the frame and the tick
+
+none_by : (s k : ℕ) → 1 ≤ k → 0 * s / k ≡ 0
+none_by s k some = let below = div_below (0 * s) k 1 some (omega arith) in omega arith
+
+module _ (p : Plan) (h : ℕ) (records : List Record) (t c : ℕ) (carrier : Carrier) (good : IsGood p) (read : slice_get p.carriers c ≡ Some carrier) where
+  is_good : IsGoodCarrier p c carrier
+  is_good = good_carrier p c carrier good read
+
+  -- the samples that leave are the entries
+  pub entries_of_kept-leaving : (n : ℕ) (f : Flow) (kept : CarrierInHand) → t ≡ n + p.playout → find (lists c) p.flows ≡ Some f
+      → carrier.k ≤ n → n < carrier.k + h
+      → KeepsLeaving (mapping_of carrier) (containers_with p f h records carrier n) kept → kept.number ≡ samples_before p c (n - carrier.k)
+      → entries_of_kept t c kept ≡ entries_of p h records t c
+  entries_of_kept-leaving n f kept at found after inside keeps numbered =
+      kept-handed_in p f h records c carrier is_good n after kept keeps t found read numbered
+      ∙ sym (entries-inside p h records c carrier is_good read t (n - carrier.k) (omega arith) (omega arith))
+
+  -- none leaves in the frames of the first block
+  pub entries_of-before : (n : ℕ) → t ≡ n + p.playout → n < carrier.k → entries_of p h records t c ≡ []
+  entries_of-before n at before = entries_of-early p h records c carrier is_good read t (omega arith)
+
+  -- nor after the last sample of the run
+  pub entries_of-after : (n : ℕ) → t ≡ n + p.playout → carrier.k + h ≤ n → entries_of p h records t c ≡ []
+  entries_of-after n at after = entries_of-past p h records c carrier is_good read t (omega arith)
+
+  -- nor before a frame is played
+  pub entries_of-unplayed : t < p.playout → entries_of p h records t c ≡ []
+  entries_of-unplayed early = entries_of-early p h records c carrier is_good read t (omega arith)
+
+  -- ---- which samples leave next
+
+  -- those that leave with frame n begin with the next of the carrier
+  pub number-leaving : (n number : ℕ) → t ≡ n + p.playout → carrier.k ≤ n → n < carrier.k + h
+      → number ≡ samples_before p c (min (t - delay_of p c) h) → number ≡ samples_before p c (n - carrier.k)
+  number-leaving n number at after inside next =
+      let delay = delay_of-carrier p c carrier is_good in
+      let same : min (t - delay_of p c) h ≡ n - carrier.k = omega arith in
+      next ∙ ap (samples_before p c) same
+
+  -- and after them comes the next one
+  pub next-leaving : (n : ℕ) (f : Flow) (kept : CarrierInHand) → t ≡ n + p.playout → carrier.k ≤ n → n < carrier.k + h
+      → KeepsLeaving (mapping_of carrier) (containers_with p f h records carrier n) kept → kept.number ≡ samples_before p c (min (t - delay_of p c) h)
+      → kept.number + kept.count ≡ samples_before p c (min (t + 1 - delay_of p c) h)
+  next-leaving n f kept at after inside keeps next =
+      let delay = delay_of-carrier p c carrier is_good in
+      let same : min (t + 1 - delay_of p c) h ≡ n - carrier.k + 1 = omega arith in
+      ap (λ x. x + kept.count) (number-leaving n kept.number at after inside next) ∙ kept-between p f h records c carrier is_good n after kept keeps
+      ∙ ap (samples_before p c) (sym same)
+
+  -- where none leaves, the next one stays the next
+  pub next-before : t < p.playout + carrier.k → samples_before p c (min (t - delay_of p c) h) ≡ samples_before p c (min (t + 1 - delay_of p c) h)
+  next-before early =
+      let delay = delay_of-carrier p c carrier is_good in
+      let same : min (t - delay_of p c) h ≡ min (t + 1 - delay_of p c) h = omega arith in
+      ap (samples_before p c) same
+
+  pub next-after : p.playout + carrier.k + h ≤ t → samples_before p c (min (t - delay_of p c) h) ≡ samples_before p c (min (t + 1 - delay_of p c) h)
+  next-after past =
+      let delay = delay_of-carrier p c carrier is_good in
+      let same : min (t - delay_of p c) h ≡ min (t + 1 - delay_of p c) h = omega arith in
+      ap (samples_before p c) same
+
+  -- none has left before the first tick
+  pub next-first : samples_before p c (min (0 - delay_of p c) h) ≡ 0
+  next-first =
+      let none : min (0 - delay_of p c) h ≡ 0 = omega arith in
+      ap (samples_before p c) none ∙ samples_before-carrier p c carrier 0 is_good ∙ none_by carrier.s carrier.k is_good.some_frames

@@ -1,10 +1,11 @@
-pub mod Simple
 pub mod Records
 pub mod Received
-pub mod Samples
 pub mod Output
-pub mod Arrivals
-pub mod Addressed
-pub mod Block
+pub mod Answers
+pub mod Containers
+pub mod Runs
+pub mod Flows
 pub mod Sessions
+pub mod Playing
 pub mod Laws
+pub mod WordSizes

@@ -2,35 +2,26 @@
 -- that is missed. This is the project's own.
 use Rattle.std.specs.Prelude.{ℕ, zero, suc, ◌-◌, ◌*◌, nat_le, nat_lt, ◌&&◌, Bool, List, [], length, map, find, Option, Some, None, slice_get, if◌then◌else◌}
 use Rattle.std.specs.List.{flat_map, list_any, range_with_len}
-use Rattle.basic_frame.specs.Frames.{iq_bit}
 use Rattle.carrier_plan.specs.declared.plan.Carrier.{Carrier}
 use Rattle.carrier_plan.specs.declared.plan.Flow.{Flow}
-use Rattle.carrier_plan.specs.declared.plan.Mode.{Mode}
-use Rattle.carrier_plan.specs.declared.plan.Mode.TheVariants.{Tunnel, Bytes, Aware}
 use Rattle.carrier_plan.specs.declared.plan.Plan.{Plan}
+use Rattle.link_base.specs.Record.{Record}
 use Rattle.plan_checker.specs.Flows.{lists}
 use Rattle.plan_checker.specs.Place.{BitPlace, place_of}
 use Rattle.plan_checker.specs.Run.{delay_of, samples_before, samples_due, ticks_of_run}
-use Rattle.plan_checker.specs.WordSize.{word_size}
+use Rattle.roe_mappers.specs.Parts.{part_bit}
+use Rattle.sample_bits.specs.SampleOfBits.{sample_of_bits}
 use Rattle.sample_bits.specs.declared.iq.RawIq.{RawIq}
-use Rattle.link_receiver.specs.declared.session.Entry.{Entry}
-use Rattle.link_base.specs.Record.{Record}
+use Rattle.link_receiver.specs.declared.entry.Entry.{Entry}
 use Rattle.link_receiver.specs.Received.{part_of_frame, is_missed}
-use Rattle.link_receiver.specs.Samples.{sample_of_bits}
 
--- IQ bit x of a frame, by the octets that carry it in a packet. Mode `bytes` alone is played so far.
-abbrev pub bit_of_part : Mode → Plan → List ℕ → ℕ → ℕ
-bit_of_part Tunnel p part x = 0
-bit_of_part Bytes p part x = iq_bit (word_size p.option) part x
-bit_of_part Aware p part x = 0
-
--- that bit, where the frame was received
-abbrev pub bit_if_received : Plan → ℕ → Option (List ℕ) → ℕ
-bit_if_received p x None = 0
-bit_if_received p x (Some part) = bit_of_part p.mode p part x
+-- IQ bit x of a frame, where its octets arrived
+abbrev pub bit_if_received : Plan → Flow → ℕ → Option (List ℕ) → ℕ
+bit_if_received p f x None = 0
+bit_if_received p f x (Some part) = part_bit p f part x
 
 abbrev pub bit_at_place : Plan → Flow → ℕ → List Record → BitPlace → ℕ
-bit_at_place p f h records place = bit_if_received p place.bit (part_of_frame p f h records place.frame)
+bit_at_place p f h records place = bit_if_received p f place.bit (part_of_frame p f h records place.frame)
 
 -- whether a bit of sample j of the carrier stands in a frame that is missed
 abbrev pub is_marked : Plan → Flow → ℕ → List Record → Carrier → ℕ → Bool

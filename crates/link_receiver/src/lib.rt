@@ -1,21 +1,20 @@
 //! Plays captured packets back: what is received of each flow, and the samples that leave at each tick.
 #![tactic(auto)]
 
-mod addressed;
+mod arrival;
 mod arrive;
-mod candidate;
+mod carrier_in_hand;
+mod entry;
+mod flow_in_hand;
 mod laws;
+mod listing;
+mod parts;
 mod playing;
-mod samples;
 mod session;
-mod simple;
+mod word_sizes;
 
 pub use arrive::{Arrive, Foreign};
-pub use laws::{
-    candidates_are_unique, entries_are_settled, simplicity_is_computed, taken_is_settled,
-};
-pub use session::{Counts, Entry, Session};
-pub use simple::is_simple;
-
-#[cfg(test)]
-mod tests;
+pub use entry::{Counts, Entry, Run};
+pub use laws::{candidates_are_unique, entries_are_settled, taken_is_settled};
+pub use session::Session;
+pub use word_sizes::AnySession;

@@ -1,124 +1,76 @@
-// The entries of one carrier at one tick.
-ghost use Rattle.std.specs.Prelude.{◌≡◌, ◌+◌, ◌*◌, ◌<◌, ◌≤◌, ◌^◌, ◌++◌, ◌∷◌, [], length, map, List};
-ghost use Rattle.std.specs.List.{range_with_len};
-ghost use Rattle.std.specs.Vec.{vec_len, vec_capacity};
-ghost use Rattle.link_receiver.specs.Block.{sample_in, block_entry, start_of};
-ghost use Rattle.link_base.specs.Record.{Record};
-ghost use Rattle.link_receiver.specs.Sessions.{HoldsReceived, most_samples};
-ghost use Rattle.link_receiver.specs.Simple.{IsSimple};
-ghost use Rattle.link_receiver.specs.Output.{entries_of, entries_at};
+// A frame, played at each carrier.
+ghost use Rattle.std.specs.Prelude.{◌≡◌, ◌+◌, ◌-◌, ◌*◌, ◌<◌, ◌≤◌, ◌^◌, length, Some, None, if◌then◌else◌};
+ghost use Rattle.std.specs.Option.{ForSome, option_copied};
+ghost use Rattle.plan_checker.specs.Rules.{IsGood};
+ghost use Rattle.plan_checker.specs.WordSize.{word_size};
+ghost use Rattle.link_receiver.specs.Playing.{KeepFlows, KeepCarriers, HavePlayed, IsControlInHand, octets_in_hand};
 
-use crate::samples::sample_at;
-use crate::session::{Entry, Payload};
-use carrier_plan::Carrier;
+use crate::carrier_in_hand::CarrierInHand;
+use crate::flow_in_hand::FlowInHand;
+use crate::parts::{control_flow, control_word, octets_of, spell};
+use basic_frame::Frame;
+use carrier_plan::{Mode, Plan};
 use plan_checker::Checked;
-use sample_bits::RawIq;
 
-/// The payloads of a run, by the numbers of their packets.
-#[derive(Clone, Copy)]
-pub struct Run<'a> {
-    pub checked: &'a Checked,
-    /// The ticks of the run.
-    pub frames: u64,
-    pub payloads: &'a [Option<Payload>],
-}
-
-// The first IQ bit of a container in one piece.
-fn start_of(carrier: &Carrier) -> u32
-    requires { length carrier.now.pieces ≡ 1 }
-    ensures { result ≡ start_of carrier.now }
+/// Plays frame `n` of a run of so many ticks at each carrier.
+pub fn play_carriers(
+    carriers: &mut [CarrierInHand],
+    plan: &Plan,
+    flows: &[FlowInHand],
+    spelled: Option<&[u8]>,
+    n: u64,
+    run_ticks: u64,
+)
+    requires good { IsGood plan.now }
+    requires carriers { KeepCarriers plan.now run_ticks (n + plan.now.playout) carriers.old }
+    requires flows { KeepFlows plan.now run_ticks (n + plan.now.playout) flows.now }
+    requires spelled { plan.now.mode ≡ Mode.Tunnel → option_copied spelled ≡ octets_in_hand plan.now flows.now 0 n }
+    requires whole { ForSome spelled (λ octets. length octets.now ≡ 16 * word_size plan.now.option) }
+    requires run { run_ticks ≤ 2 ^ 40 }
+    ensures { HavePlayed plan.now flows.now n run_ticks carriers.old carriers.new }
 {
-    carrier.pieces.at(0).start
-}
-
-// Sample `r` of the block of a carrier that the payload carries.
-fn sample_in(payload: &Option<Payload>, carrier: &Carrier, r: u32) -> Option<RawIq>
-    requires least { 4 ≤ carrier.now.m }
-    requires most { carrier.now.m ≤ 20 }
-    requires piece { length carrier.now.pieces ≡ 1 }
-    requires within { start_of carrier.now + 2 * carrier.now.m * (r + 1) ≤ 120 }
-    ensures { result ≡ sample_in carrier.now payload.now r }
-{
-    let from = 8 + start_of(carrier) + 2 * carrier.m * r;
-    match payload {
-        Some(octets) => Some(sample_at(octets, from as usize, carrier.m)),
-        None => None,
+    for c in 0..carriers.len() {
+        let octets = octets_of(plan, flows, spelled, carriers[c].flow, n);
+        carriers[c].play(octets, n, run_ticks);
     }
 }
 
-// Appends an entry, for which there is room.
-fn put(entries: &mut Vec<Entry>, entry: Entry)
-    requires { vec_len entries.old < vec_capacity entries.old }
-    ensures items { entries.new.items ≡ entries.old.items ++ entry ∷ [] }
-    ensures len { vec_len entries.new ≡ vec_len entries.old + 1 }
-    ensures room { vec_capacity entries.old ≤ vec_capacity entries.new }
+/// Plays a tick of a run of so many ticks: the frame whose turn it is, if there is one, at each carrier. Its control word takes the
+/// place of that before it.
+pub fn play_tick<const Y: usize>(
+    checked: &Checked,
+    flows: &[FlowInHand],
+    tick: u64,
+    run_ticks: u64,
+    frame: &mut Frame<Y>,
+    carriers: &mut [CarrierInHand],
+    control: &mut Option<[u8; Y]>,
+)
+    requires good { IsGood checked.now }
+    requires words { Y ≡ word_size checked.now.option }
+    requires carriers { KeepCarriers checked.now run_ticks tick carriers.old }
+    requires flows { KeepFlows checked.now run_ticks tick flows.now }
+    requires run { run_ticks ≤ 2 ^ 40 }
+    ensures early { tick < checked.now.playout → carriers.new ≡ carriers.old }
+    ensures played { checked.now.playout ≤ tick → HavePlayed checked.now flows.now (tick - checked.now.playout) run_ticks carriers.old carriers.new }
+    ensures control { checked.now.playout ≤ tick → IsControlInHand checked.now flows.now Y (tick - checked.now.playout) control.new }
 {
-    let _ = entries.push(entry);
-}
-
-// Appends the samples of a block, from the entry of the first on.
-fn put_block(entries: &mut Vec<Entry>, carrier: &Carrier, payload: &Option<Payload>, first: Entry)
-    requires least { 4 ≤ carrier.now.m }
-    requires most { carrier.now.m ≤ 20 }
-    requires few { carrier.now.s ≤ most_samples }
-    requires piece { length carrier.now.pieces ≡ 1 }
-    requires within { start_of carrier.now + 2 * carrier.now.m * carrier.now.s ≤ 120 }
-    requires number { first.number ≤ 2 ^ 60 }
-    requires room { vec_len entries.old + most_samples ≤ vec_capacity entries.old }
-    ensures items { entries.new.items ≡ entries.old.items ++ map (block_entry carrier.now payload.now first) (range_with_len 0 carrier.now.s) }
-    ensures len { vec_len entries.new ≡ vec_len entries.old + carrier.now.s }
-    ensures room { vec_capacity entries.old ≤ vec_capacity entries.new }
-{
-    for r in 0..carrier.s {
-        let entry = Entry {
-            number: first.number + u64::from(r),
-            value: sample_in(payload, carrier, r),
-            ..first
-        };
-        put(entries, entry);
-    }
-}
-
-// Appends the entries of carrier `c` at tick `tick`.
-fn put_entries(entries: &mut Vec<Entry>, run: Run<'_>, tick: u64, c: usize)
-    requires simple { IsSimple run.checked.now }
-    requires frames { run.frames ≤ 2 ^ 40 }
-    requires payloads { length run.payloads.now ≡ run.frames + 1 }
-    requires carrier { c < length run.checked.now.carriers }
-    requires room { vec_len entries.old + most_samples ≤ vec_capacity entries.old }
-    ensures played { (records : List Record) → HoldsReceived run.entry.checked.now run.entry.frames run.entry.payloads.now records
-        → entries.new.items ≡ entries.old.items ++ entries_of run.entry.checked.now run.entry.frames records tick c }
-    ensures len { vec_len entries.new ≤ vec_len entries.old + most_samples }
-    ensures room { vec_capacity entries.old ≤ vec_capacity entries.new }
-{
-    let carrier = run.checked.plan().carriers.at(c);
-    let delay = run.checked.delay(c);
-    if tick < delay || run.frames <= tick - delay {
+    let plan = checked.plan();
+    let playout = u64::from(plan.playout);
+    if tick < playout {
         return;
     }
-    let block = tick - delay;
-    let first = Entry {
-        tick,
-        carrier: c as u32,
-        number: block * u64::from(carrier.s),
-        value: None,
-    };
-    put_block(entries, carrier, &run.payloads[block as usize + 1], first)
+    let n = tick - playout;
+    let good = spell(checked, flows, n, frame);
+    let spelled = octets_if(good, frame);
+    play_carriers(carriers, plan, flows, spelled, n, run_ticks);
+    *control = control_word(plan, flows, spelled, control_flow(plan), n);
 }
 
-/// Puts the entries of tick `tick` in place of those that are there.
-#[tactic(auto, unfolding(crate::specs::Output::entries_at))]
-pub fn play(entries: &mut Vec<Entry>, run: Run<'_>, tick: u64)
-    requires simple { IsSimple run.checked.now }
-    requires frames { run.frames ≤ 2 ^ 40 }
-    requires payloads { length run.payloads.now ≡ run.frames + 1 }
-    requires room { most_samples * length run.checked.now.carriers ≤ vec_capacity entries.old }
-    ensures played { (records : List Record) → HoldsReceived run.entry.checked.now run.entry.frames run.entry.payloads.now records
-        → entries.new.items ≡ entries_at run.entry.checked.now run.entry.frames records tick }
-    ensures room { vec_capacity entries.old ≤ vec_capacity entries.new }
+// The octets of the frame, if they are good.
+fn octets_if<const Y: usize>(good: bool, frame: &Frame<Y>) -> Option<&[u8]>
+    ensures octets { option_copied result ≡ (if good then Some frame.now else None) }
+    ensures whole { ForSome result (λ octets. length octets.now ≡ 16 * Y) }
 {
-    entries.clear();
-    for c in 0..run.checked.plan().carriers.len() {
-        put_entries(entries, run, tick, c);
-    }
+    if good { Some(frame.octets()) } else { None }
 }

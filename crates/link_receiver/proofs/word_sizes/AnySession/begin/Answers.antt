@@ -1,0 +1,13 @@
+use Rattle.std.proofs.Common.{◌≡◌, arith, subst}
+use Rattle.plan_checker.specs.Rules.{IsGood}
+use Rattle.plan_checker.specs.WordSize.{word_size}
+use Rattle.link_receiver.proofs.Begun.{last_word_size}
+use Rattle.link_receiver.proofs.word_sizes.AnySession.begin.Goals as goal
+
+pub begin-requires-2 : goal.begin-requires-2
+begin-requires-2 c =
+    let plan = c.args.checked.now
+    in let octets = c.octets_of_word-octets.result
+    in let good : IsGood plan = subst IsGood c.plan.ensures.same c.plan.ensures.good
+    in let is : octets ≡ word_size plan.option = subst (λ p. octets ≡ word_size p.option) c.plan.ensures.same c.octets_of_word-octets.ensures.value
+    in (omega arith, (last_word_size plan octets good is c.if-octets-eq1.false c.if-octets-eq2.false c.if-octets-eq4.false c.if-octets-eq5.false c.if-octets-eq8.false c.if-octets-eq10.false, c.requires))
