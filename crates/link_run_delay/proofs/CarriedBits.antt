@@ -8,7 +8,7 @@ use Rattle.std.proofs.lemmas.Nat.{div-add-mod', mod_below, mul-le}
 use Rattle.std.proofs.lemmas.Option.{slice_get_within}
 use Rattle.carrier_plan.specs.declared.plan.Carrier.{Carrier}
 use Rattle.carrier_plan.specs.declared.plan.Plan.{Plan}
-use Rattle.link_receiver.proofs.SimplePlans.{at_place}
+use Rattle.plan_checker.proofs.Places.{at_place}
 use Rattle.link_sender.specs.Frames.{CarriesOne}
 use Rattle.link_sender.specs.Stream.{Stream, sample_at}
 use Rattle.plan_checker.specs.Place.{place_of}

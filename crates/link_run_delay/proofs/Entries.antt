@@ -8,7 +8,7 @@ use Rattle.std.proofs.lemmas.List.FromFn.{get_or-range_with_len, length-range_wi
 use Rattle.std.proofs.lemmas.List.Sums.{sum_by-append, sum_by-cons}
 use Rattle.carrier_plan.specs.declared.plan.Carrier.{Carrier}
 use Rattle.carrier_plan.specs.declared.plan.Plan.{Plan}
-use Rattle.link_receiver.specs.declared.session.Entry.{Entry}
+use Rattle.link_receiver.specs.declared.entry.Entry.{Entry}
 use Rattle.link_receiver.specs.Output.{all_entries, entries_at, entries_by, entries_handed_in, entries_of, entry_of}
 use Rattle.link_base.specs.Record.{Record}
 use Rattle.plan_checker.specs.Run.{IsDue, delay_of, samples_before, samples_due, ticks_of_run}

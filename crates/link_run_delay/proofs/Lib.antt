@@ -1,9 +1,14 @@
 pub mod ReceivedPackets
 pub mod BitPlaces
+pub mod CarryingFlows
+pub mod CarriedFrames
 pub mod SampleValues
 pub mod Entries
 pub mod Delayed
 pub mod PlainPlans
-pub mod OctetsOfBits
 pub mod CarriedBits
-pub mod Existing
+pub mod OctetsOfBits
+pub mod OctetsOfSymbols
+pub mod FramesOfStreams
+pub mod PartsOfFrames
+pub mod PacketsOfStreams

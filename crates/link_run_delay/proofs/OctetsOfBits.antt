@@ -8,7 +8,7 @@ use Rattle.std.proofs.lemmas.List.{get_or-append_right}
 use Rattle.std.proofs.lemmas.List.Elements.{All-append, All-map}
 use Rattle.std.proofs.lemmas.List.FromFn.{get_or-map-range_with_len, length-map-range_with_len}
 use Rattle.std.proofs.lemmas.Nat.Bits.{bit_at_lowest, bit_at-suc}
-use Rattle.basic_frame.specs.Frames.{iq_bit}
+use Rattle.link_base.specs.Bits.{bit_of}
 
 -- ---- a number with given bits
 
@@ -43,16 +43,16 @@ number_with (suc n) bits small =
       record { small = omega (arith, pow-suc 2 n); same = bits_more n rest.0 bits small rest.1.same },
     )
 
--- ---- a frame with given IQ bits
+-- ---- octets with given bits behind given octets
 
--- the octets of a frame with words of y octets, this first word and these IQ bits
-pub record HasIqBits (y : ℕ) (first : List ℕ) (bits : ℕ → ℕ) (octets : List ℕ) : Type 0 where
-  pub size : length octets ≡ 16 * y
+-- the octets are these y, and m more with these bits
+pub record HasBitsBehind (y m : ℕ) (first : List ℕ) (bits : ℕ → ℕ) (octets : List ℕ) : Type 0 where
+  pub size : length octets ≡ y + m
   pub small : All (λ octet. octet < 256) octets
   pub front : take y octets ≡ first
-  pub same : (x : ℕ) → x < 120 * y → iq_bit y octets x ≡ bits x
+  pub same : (x : ℕ) → x < 8 * m → bit_of octets (8 * y + x) ≡ bits x
 
-module _ (y : ℕ) (first : List ℕ) (bits : ℕ → ℕ) (size : length first ≡ y) (are_octets : All (λ octet. octet < 256) first) (are_bits : AreBits bits) where
+module _ (y m : ℕ) (first : List ℕ) (bits : ℕ → ℕ) (size : length first ≡ y) (are_octets : All (λ octet. octet < 256) first) (are_bits : AreBits bits) where
   octet_with : (i : ℕ) → (number : ℕ) × HasBits 8 (λ j. bits (8 * i + j)) number
   octet_with i = number_with 8 (λ j. bits (8 * i + j)) (λ j. are_bits (8 * i + j))
 
@@ -60,14 +60,14 @@ module _ (y : ℕ) (first : List ℕ) (bits : ℕ → ℕ) (size : length first 
   octet i = (octet_with i).0
 
   abbrev rest : List ℕ
-  rest = map octet (range_with_len 0 (15 * y))
+  rest = map octet (range_with_len 0 m)
 
-  octet_at : (i : ℕ) → i < 15 * y → get_or (first ++ rest) (y + i) 0 ≡ octet i
+  octet_at : (i : ℕ) → i < m → get_or (first ++ rest) (y + i) 0 ≡ octet i
   octet_at i lt =
       get_or-append_right first rest y (y + i) 0 size (omega arith)
-      ∙ get_or-map-range_with_len octet 0 (15 * y) (y + i - y) i 0 (omega arith) (omega arith)
+      ∙ get_or-map-range_with_len octet 0 m (y + i - y) i 0 (omega arith) (omega arith)
 
-  bit_is : (x : ℕ) → x < 120 * y → iq_bit y (first ++ rest) x ≡ bits x
+  bit_is : (x : ℕ) → x < 8 * m → bit_of (first ++ rest) (8 * y + x) ≡ bits x
   bit_is x lt =
       let place : (8 * y + x) / 8 ≡ y + x / 8 = omega arith in
       let low : (8 * y + x) % 8 ≡ x % 8 = omega arith in
@@ -78,12 +78,12 @@ module _ (y : ℕ) (first : List ℕ) (bits : ℕ → ℕ) (size : length first 
       ∙ (octet_with (x / 8)).1.same (x % 8) (omega arith)
       ∙ ap bits whole
 
-  pub frame_with : (octets : List ℕ) × HasIqBits y first bits octets
-  frame_with = (
+  pub octets_with : (octets : List ℕ) × HasBitsBehind y m first bits octets
+  octets_with = (
     first ++ rest,
     record {
-      size = omega (arith, length-append first rest, length-map-range_with_len octet 0 (15 * y));
-      small = All-append (λ k. k < 256) first rest are_octets (All-map (λ k. k < 256) octet (range_with_len 0 (15 * y)) (λ k d lt. (octet_with (get_or (range_with_len 0 (15 * y)) k d)).1.small));
+      size = omega (arith, length-append first rest, length-map-range_with_len octet 0 m);
+      small = All-append (λ k. k < 256) first rest are_octets (All-map (λ k. k < 256) octet (range_with_len 0 m) (λ k d lt. (octet_with (get_or (range_with_len 0 m) k d)).1.small));
       front = ap (λ k. take k (first ++ rest)) (sym size) ∙ take-append_seam first rest;
       same = bit_is;
     },

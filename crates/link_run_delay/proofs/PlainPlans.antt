@@ -124,7 +124,7 @@ flows_ok {V} line_read carriers_read flows_read p h =
     let carriers = bind_ok (carriers_read line.0.0) (λ carriers. flows_read >>= (λ flows. Ok (made line.0 carriers flows))) p line.2 in
     let flows = bind_ok flows_read (λ flows. Ok (made line.0 carriers.0 flows)) p carriers.2 in
     let same = same_ok (made line.0 carriers.0 flows.0) p flows.2 in
-    subst (λ (q : Plan). flows_read ≡ Ok q.flows) same flows.1
+    subst (λ (q : Plan). flows_read ≡ Ok q.flows) {x = made line.0 carriers.0 flows.0} same flows.1
 
 All-plan_in : (keys : Members) (p : Plan) → plan_in keys ≡ Ok p → All HasAddresses p.flows
 unfolding plan_in

@@ -1,17 +1,18 @@
 -- What a capture of a stream's packets brings for a packet: the packet's payload, or nothing where the packet is lost.
-use Rattle.std.proofs.Common.{◌≡◌, ℕ, suc, ◌+◌, ◌*◌, ◌/◌, ◌^◌, ◌<◌, true, ◌&&◌, List, [], ◌∷◌, length, All, Contains, Option, Some, None, Result, Ok, Err, slice_get, get_or, eqb, leb, ltb, sym, refl, ap, ◌∙◌, subst, arith}
+use Rattle.std.proofs.Common.{◌≡◌, ℕ, zero, suc, ◌*◌, ◌/◌, ◌^◌, ◌<◌, true, ◌&&◌, List, [], ◌∷◌, length, All, Contains, Option, Some, None, Ok, slice_get, get_or, eqb, sym, refl, ap, ◌∙◌, subst, arith}
 use Rattle.std.specs.List.{HoldsAt, cons_option, filter_map}
-use Rattle.std.proofs.lemmas.Bool.{and_from, and_parts, eq-eqb, le-leb, leb-true, lt-ltb, cond-true}
+use Rattle.std.proofs.lemmas.Bool.{and_from, eq-eqb, cond-true}
 use Rattle.std.proofs.lemmas.List.{append-nil}
-use Rattle.std.proofs.lemmas.List.Elements.{All-nil, All-cons, All-contains}
+use Rattle.std.proofs.lemmas.List.Elements.{All-nil, All-cons, All-contains, Contains-get_or}
 use Rattle.std.proofs.lemmas.Nat.{mod_below}
-use Rattle.std.proofs.lemmas.Option.{cond_some, none-some}
+use Rattle.std.proofs.lemmas.Option.{cond_some, none-some, same_Some}
 use Rattle.carrier_plan.specs.declared.plan.Flow.{Flow}
 use Rattle.carrier_plan.specs.declared.plan.Mode.{Mode}
 use Rattle.carrier_plan.specs.declared.plan.Mode.TheVariants.{Tunnel, Bytes, Aware}
 use Rattle.carrier_plan.specs.declared.plan.Plan.{Plan}
 use Rattle.link_base.specs.Record.{Record}
-use Rattle.link_receiver.specs.Records.{fits, is_candidate, is_candidate_of, payload_by, payload_for}
+use Rattle.link_base.specs.Window.{IsOpen}
+use Rattle.link_receiver.specs.Records.{arrival_by, arrival_of, arrivals_of, fits, window_of}
 use Rattle.link_receiver.specs.Received.{received}
 use Rattle.link_sender.specs.Packets.{IsPacket, IsPayload, packet_fields}
 use Rattle.link_sender.specs.Stream.{Stream}
@@ -20,9 +21,11 @@ use Rattle.plan_checker.specs.Packets.{run_packets, sequence_of, subtype_of}
 use Rattle.plan_checker.specs.Rules.{IsGood}
 use Rattle.plan_checker.specs.Rules.Rule.{PayloadSize, SequenceNumbers}
 use Rattle.plan_checker.specs.Timing.{HasSequenceNumbers}
-use Rattle.link_base.specs.Window.{IsOpen, last_frame}
-use Rattle.roe_header.specs.Layout.{Fields, IsWritable, is_subtype, packet_octets, parsed}
-use Rattle.roe_header.specs.declared.packet.NotRoe.{NotRoe}
+use Rattle.playout_buffer.proofs.Candidates.{candidate_from, candidate_parts}
+use Rattle.playout_buffer.specs.Candidate.{IsCandidate, is_candidate}
+use Rattle.playout_buffer.specs.Received.{Arrival, payload_for}
+use Rattle.playout_buffer.specs.declared.window.Window.{Window}
+use Rattle.roe_header.specs.Layout.{IsWritable, is_subtype, packet_octets, parsed}
 use Rattle.roe_header.proofs.RoundTrip.{read_back}
 use Rattle.link_run_delay.specs.Delay.{AreFresh, IsLost, IsPlain}
 
@@ -54,6 +57,45 @@ none_from_head brings x xs (Some z) e rest h = absurd (none-some z (sym h))
 none_brought : {X Y : Type 0} (brings : X → Option Y) (xs : List X) → slice_get (filter_map brings xs) 0 ≡ None → All (λ z. brings z ≡ None) xs
 none_brought brings [] h = All-nil (λ z. brings z ≡ None)
 none_brought brings (x ∷ xs) h = none_from_head brings x xs (brings x) refl (none_brought brings xs) h
+
+-- ---- the values that items bring
+
+-- an item of a list is its first or one of the others
+contained_cases : {X : Type 0} (P : X → Type 0) (x y : X) (xs : List X) → (x ≡ y → P y) → (Contains xs y → P y) → Contains (x ∷ xs) y → P y
+contained_cases P x y xs first others h = contained_at P x y xs first others h.0 h.1 h.2
+  where
+    contained_at : {X : Type 0} (P : X → Type 0) (x y : X) (xs : List X) → (x ≡ y → P y) → (Contains xs y → P y) → (k : ℕ) → k < length (x ∷ xs) → get_or (x ∷ xs) k y ≡ y → P y
+    contained_at P x y xs first others zero lt e = first e
+    contained_at P x y xs first others (suc k) lt e = others (k, omega arith, e)
+
+from_head : {X Y : Type 0} (brings : X → Option Y) (x : X) (xs : List X) (y : Y) (brought : Option Y) → brings x ≡ brought
+    → (Contains (filter_map brings xs) y → Brought brings xs y) → Contains (cons_option brought (filter_map brings xs)) y → Brought brings (x ∷ xs) y
+from_head brings x xs y None e rest h = let found = rest h in (found.0, later x found.0 xs found.1, found.2)
+from_head brings x xs y (Some z) e rest h =
+    contained_cases (Brought brings (x ∷ xs)) z y (filter_map brings xs)
+    (λ same. (x, (0, omega arith, refl), e ∙ ap Some same))
+    (λ others. let found = rest others in (found.0, later x found.0 xs found.1, found.2)) h
+
+-- a value that is brought is brought by an item
+brought_by : {X Y : Type 0} (brings : X → Option Y) (xs : List X) (y : Y) → Contains (filter_map brings xs) y → Brought brings xs y
+brought_by brings [] y h = absurd (omega (arith, h.1))
+brought_by brings (x ∷ xs) y h = from_head brings x xs y (brings x) refl (brought_by brings xs y) h
+
+among_others : {Y : Type 0} (brought : Option Y) (ys : List Y) (y : Y) → Contains ys y → Contains (cons_option brought ys) y
+among_others None ys y h = h
+among_others (Some z) ys y h = later z y ys h
+
+among_first : {Y : Type 0} (brought : Option Y) (ys : List Y) (y : Y) → brought ≡ Some y → Contains (cons_option brought ys) y
+among_first None ys y h = absurd (none-some y h)
+among_first (Some z) ys y h = (0, omega arith, same_Some z y h)
+
+-- and what an item brings is brought
+brought_in : {X Y : Type 0} (brings : X → Option Y) (xs : List X) (x : X) (y : Y) → brings x ≡ Some y → Contains xs x → Contains (filter_map brings xs) y
+brought_in brings [] x y e h = absurd (omega (arith, h.1))
+brought_in brings (z ∷ xs) x y e h =
+    contained_cases (λ a. brings a ≡ Some y → Contains (cons_option (brings z) (filter_map brings xs)) y) z x xs
+    (λ same is. among_first (brings z) (filter_map brings xs) y (ap brings same ∙ is))
+    (λ others is. among_others (brings z) (filter_map brings xs) y (brought_in brings xs x y is others)) h e
 
 -- ---- packets that are written are read again
 
@@ -95,82 +137,83 @@ module _ (p : Plan) (h : ℕ) (σ : Stream) (f : Flow) (good : IsGood p) (plain 
       (and_from (eqb (subtype_of p.mode) (subtype_of p.mode)) (eqb f.id f.id) (eq-eqb (subtype_of p.mode) (subtype_of p.mode) refl) (eq-eqb f.id f.id refl))
       (eq-eqb (length payload) (f.frames * octets_of_frame p f) size)
 
-  is_candidate-open : (t i : ℕ) → i < run_packets p f h → IsOpen f.frames f.lmin f.lmax t i → is_candidate p f h t (sequence_of f i) i ≡ true
-  unfolding is_candidate_of
-  is_candidate-open t i within open' =
-      and_from (ltb i (run_packets p f h)) _ (lt-ltb i (run_packets p f h) within)
-      (and_from (eqb (sequence_of f i) (sequence_of f i)) _ (eq-eqb (sequence_of f i) (sequence_of f i) refl)
-      (and_from (leb (last_frame f.frames i + f.lmin) t) _ (le-leb (last_frame f.frames i + f.lmin) t open'.0) (le-leb t (last_frame f.frames i + f.lmax) open'.1)))
+  -- what a packet of the stream is as a payload that arrives
+  abbrev arrival : (t i : ℕ) → List ℕ → Arrival
+  arrival t i payload = record { tick = t; seq = sequence_of f i; payload = payload }
 
-  -- a packet that is there at a tick of its window brings its payload
-  payload_for-packet : (i : ℕ) (r : Record) → i < run_packets p f h → IsOpen f.frames f.lmin f.lmax r.tick i → (packet : IsPacket p σ f i r.octets) → payload_for p f h i r ≡ Some packet.payload
-  unfolding payload_for
-  payload_for-packet i r within open' packet =
+  arrival_of-packet : (i : ℕ) (r : Record) → (packet : IsPacket p σ f i r.octets) → arrival_of p f r ≡ Some (arrival r.tick i packet.payload)
+  arrival_of-packet i r packet =
       let fields = packet_fields p f i packet.payload in
-      let test = and_from (fits p f fields) (is_candidate p f h r.tick (sequence_of f i) i) (fits-packet i packet.payload packet.carries.size) (is_candidate-open r.tick i within open') in
-      ap (payload_by p f h r.tick i) (parsed-packet i r.octets packet)
-      ∙ cond-true (fits p f fields && is_candidate p f h r.tick (sequence_of f i) i) (Some packet.payload) None test
-
-  -- where nothing is received, the packet is lost
-  pub received-none : (records : List Record) (i : ℕ) → i < run_packets p f h → received p f h records i ≡ None → IsLost p σ f records i
-  received-none records i within none k d lt open' packet =
-      let r = get_or records k d in
-      let nothing = none_brought (payload_for p f h i) records none k d lt in
-      none-some packet.payload (sym nothing ∙ payload_for-packet i r within open' packet)
+      ap (arrival_by p f r.tick) (parsed-packet i r.octets packet)
+      ∙ cond-true (fits p f fields) (Some (arrival r.tick i packet.payload)) None (fits-packet i packet.payload packet.carries.size)
 
 -- ---- what is brought for a packet
 
--- what was read of a record that brings a payload
-record Reads (p : Plan) (f : Flow) (h i : ℕ) (r : Record) (payload : List ℕ) : Type 0 where
-  fields : Fields
-  read : parsed r.octets ≡ Ok fields
-  candidate : is_candidate p f h r.tick fields.seq i ≡ true
-  same : fields.payload ≡ payload
-
-Reads-from : (p : Plan) (f : Flow) (h i : ℕ) (r : Record) (payload : List ℕ) (found : Result Fields NotRoe) → parsed r.octets ≡ found
-    → payload_by p f h r.tick i found ≡ Some payload → Reads p f h i r payload
-Reads-from p f h i r payload (Ok fields) e brought =
-    let parts = cond_some (fits p f fields && is_candidate p f h r.tick fields.seq i) fields.payload payload brought in
-    let tests = and_parts (fits p f fields) (is_candidate p f h r.tick fields.seq i) parts.0 in
-    record { fields = fields; read = e; candidate = tests.1; same = parts.1 }
-Reads-from p f h i r payload (Err reason) e brought = absurd (none-some payload brought)
-
-Reads-payload_for : (p : Plan) (f : Flow) (h i : ℕ) (r : Record) (payload : List ℕ) → payload_for p f h i r ≡ Some payload → Reads p f h i r payload
+payload_for-candidate : (w : Window) (i : ℕ) (a : Arrival) → IsCandidate w a.tick a.seq i → payload_for w i a ≡ Some a.payload
 unfolding payload_for
-Reads-payload_for p f h i r payload brought = Reads-from p f h i r payload (parsed r.octets) refl brought
+payload_for-candidate w i a candidate = cond-true (is_candidate w a.tick a.seq i) (Some a.payload) None (candidate_from w a.tick a.seq i candidate)
 
-IsOpen-candidate : (p : Plan) (f : Flow) (h t seq i : ℕ) → is_candidate p f h t seq i ≡ true → IsOpen f.frames f.lmin f.lmax t i
-unfolding is_candidate_of
-IsOpen-candidate p f h t seq i test =
-    let parts = and_parts (ltb i (run_packets p f h)) _ test in
-    let rest = and_parts (eqb (sequence_of f i) seq) _ parts.1 in
-    let window = and_parts (leb (last_frame f.frames i + f.lmin) t) _ rest.1 in
-    (leb-true (last_frame f.frames i + f.lmin) t window.0, leb-true t (last_frame f.frames i + f.lmax) window.1)
+-- an arrival that brings a payload for a packet
+record BringsFor (w : Window) (i : ℕ) (a : Arrival) (payload : List ℕ) : Type 0 where
+  candidate : IsCandidate w a.tick a.seq i
+  same : a.payload ≡ payload
 
-same_Ok : {A E : Type 0} (x y : A) → ◌≡◌ {A = Result A E} (Ok x) (Ok y) → x ≡ y
-same_Ok x y e = cc
+BringsFor-payload_for : (w : Window) (i : ℕ) (a : Arrival) (payload : List ℕ) → payload_for w i a ≡ Some payload → BringsFor w i a payload
+unfolding payload_for
+BringsFor-payload_for w i a payload brought =
+    let parts = cond_some (is_candidate w a.tick a.seq i) a.payload payload brought in
+    record { candidate = candidate_parts w a.tick a.seq i parts.0; same = parts.1 }
 
-module _ (p : Plan) (h : ℕ) (σ : Stream) (f : Flow) (good : IsGood p) (plain : IsPlain p) (listed : Contains p.flows f) where
-  -- a payload that a fresh record brings for a packet is the packet's
-  IsPayload-brought : (i : ℕ) (r : Record) (payload : List ℕ) → payload_for p f h i r ≡ Some payload → IsPacket p σ f i r.octets → IsPayload p σ f i payload
-  IsPayload-brought i r payload brought packet =
-      let reads = Reads-payload_for p f h i r payload brought in
-      let written = parsed-packet p h σ f good plain listed i r.octets packet in
-      let fields : packet_fields p f i packet.payload ≡ reads.fields = same_Ok (packet_fields p f i packet.payload) reads.fields (sym written ∙ reads.read) in
-      subst (IsPayload p σ f i) (ap (λ (x : Fields). x.payload) fields ∙ reads.same) packet.carries
+module _ (p : Plan) (h : ℕ) (σ : Stream) (f : Flow) (good : IsGood p) (plain : IsPlain p) (listed : Contains p.flows f) (records : List Record) (i : ℕ) where
+  abbrev w : Window
+  w = window_of p f h
 
-  -- where a payload is received, it is the packet's
-  pub received-payload : (records : List Record) (i : ℕ) (payload : List ℕ) → AreFresh p h σ records → received p f h records i ≡ Some payload → IsPayload p σ f i payload
-  received-payload records i payload fresh found =
-      let first = first_brought (payload_for p f h i) records payload found in
-      let is_fresh = at_contained (λ r. payload_for p f h i r ≡ Some payload → IsPacket p σ f i r.octets) records first.0 (λ k lt d e. fresh k d lt f i payload listed e) first.1 in
-      IsPayload-brought i first.0 payload first.2 (is_fresh first.2)
+  -- where nothing is received, the packet is lost
+  pub received-none : i < run_packets p f h → received p f h records i ≡ None → IsLost p σ f records i
+  received-none within none k d lt open' packet =
+      let r = get_or records k d in
+      let a = arrival p h σ f good plain listed r.tick i packet.payload in
+      let here = Contains-get_or records k d lt in
+      let arrives = brought_in (arrival_of p f) records r a (arrival_of-packet p h σ f good plain listed i r packet) here in
+      let nothing = at_contained (λ b. payload_for w i b ≡ None) (arrivals_of p f records) a (λ j less b. none_brought (payload_for w i) (arrivals_of p f records) none j b less) arrives in
+      let brought = payload_for-candidate w i a (record { within = within; number = refl; arrives = open' }) in
+      none-some packet.payload (sym nothing ∙ brought)
 
-  -- and the packet is not lost
-  pub received-not_lost : (records : List Record) (i : ℕ) (payload : List ℕ) → AreFresh p h σ records → received p f h records i ≡ Some payload → ¬ IsLost p σ f records i
-  received-not_lost records i payload fresh found lost =
-      let first = first_brought (payload_for p f h i) records payload found in
-      let reads = Reads-payload_for p f h i first.0 payload first.2 in
-      let is_fresh = at_contained (λ r. payload_for p f h i r ≡ Some payload → IsPacket p σ f i r.octets) records first.0 (λ k lt d e. fresh k d lt f i payload listed e) first.1 in
-      let is_lost = at_contained (λ r. IsOpen f.frames f.lmin f.lmax r.tick i → ¬ IsPacket p σ f i r.octets) records first.0 (λ k lt d. lost k d lt) first.1 in
-      is_lost (IsOpen-candidate p f h first.0.tick reads.fields.seq i reads.candidate) (is_fresh first.2)
+  -- what was read of a record that brings the payload that is received
+  record IsFirst (payload : List ℕ) : Type 0 where
+    first : Record
+    there : Contains records first
+    arrived : Arrival
+    arrives : arrival_of p f first ≡ Some arrived
+    brings : BringsFor w i arrived payload
+
+  first_of-received : (payload : List ℕ) → received p f h records i ≡ Some payload → IsFirst payload
+  first_of-received payload found =
+      let arrived = first_brought (payload_for w i) (arrivals_of p f records) payload found in
+      let first = brought_by (arrival_of p f) records arrived.0 arrived.1 in
+      record { first = first.0; there = first.1; arrived = arrived.0; arrives = first.2; brings = BringsFor-payload_for w i arrived.0 payload arrived.2 }
+
+  module _ (payload : List ℕ) (fresh : AreFresh p h σ records) (found : received p f h records i ≡ Some payload) where
+    abbrev is_first : IsFirst payload
+    is_first = first_of-received payload found
+
+    packet : IsPacket p σ f i is_first.first.octets
+    packet =
+        at_contained (λ r. (a : Arrival) → arrival_of p f r ≡ Some a → IsCandidate w a.tick a.seq i → IsPacket p σ f i r.octets) records is_first.first
+        (λ k lt d a arrives candidate. fresh k d lt f i a listed arrives candidate) is_first.there is_first.arrived is_first.arrives is_first.brings.candidate
+
+    same_arrival : arrival p h σ f good plain listed is_first.first.tick i packet.payload ≡ is_first.arrived
+    same_arrival =
+        same_Some (arrival p h σ f good plain listed is_first.first.tick i packet.payload) is_first.arrived
+        (sym (arrival_of-packet p h σ f good plain listed i is_first.first packet) ∙ is_first.arrives)
+
+    -- where a payload is received, it is the packet's
+    pub received-payload : IsPayload p σ f i payload
+    received-payload = subst (IsPayload p σ f i) (ap (λ (a : Arrival). a.payload) same_arrival ∙ is_first.brings.same) packet.carries
+
+    -- and the packet is not lost
+    pub received-not_lost : ¬ IsLost p σ f records i
+    received-not_lost lost =
+        let is_lost = at_contained (λ r. IsOpen f.frames f.lmin f.lmax r.tick i → ¬ IsPacket p σ f i r.octets) records is_first.first (λ k lt d. lost k d lt) is_first.there in
+        let opened : IsOpen f.frames f.lmin f.lmax is_first.first.tick i = subst (λ (a : Arrival). IsOpen f.frames f.lmin f.lmax a.tick i) (sym same_arrival) is_first.brings.candidate.arrives in
+        is_lost opened packet

@@ -5,14 +5,15 @@ use Rattle.carrier_plan.specs.declared.plan.Carrier.{Carrier}
 use Rattle.carrier_plan.specs.declared.plan.Flow.{Flow}
 use Rattle.carrier_plan.specs.declared.plan.Plan.{Plan}
 use Rattle.carrier_plan.specs.PlanOf.{plan_of}
-use Rattle.link_receiver.specs.declared.session.Entry.{Entry}
+use Rattle.link_receiver.specs.declared.entry.Entry.{Entry}
 use Rattle.link_receiver.specs.Output.{all_entries}
 use Rattle.link_base.specs.Record.{Record}
-use Rattle.link_receiver.specs.Records.{IsOfFlow, payload_for}
-use Rattle.link_receiver.specs.Simple.{IsSimple}
+use Rattle.link_receiver.specs.Records.{IsOfFlow, arrival_of, window_of}
 use Rattle.link_sender.specs.Packets.{IsPacket}
 use Rattle.link_sender.specs.Stream.{Stream, IsStream, sample_at}
 use Rattle.plan_checker.specs.Flows.{lists}
+use Rattle.playout_buffer.specs.Candidate.{IsCandidate}
+use Rattle.playout_buffer.specs.Received.{Arrival}
 use Rattle.plan_checker.specs.Packets.{run_packets}
 use Rattle.plan_checker.specs.Place.{place_of}
 use Rattle.plan_checker.specs.Rules.{IsGood}
@@ -28,10 +29,11 @@ IsOfStream p h σ f octets = (i : ℕ) × (i < run_packets p f h) × IsPacket p 
 abbrev pub AreUnaltered : Plan → ℕ → Stream → List Record → Type 0
 AreUnaltered p h σ records = All (λ r. (f : Flow) → Contains p.flows f → IsOfFlow p f r.octets → IsOfStream p h σ f r.octets) records
 
--- each record that is taken for a packet is that packet, and no other with its sequence number
+-- each record that fits a flow and is taken for a packet is that packet, and no other with its sequence number
 abbrev pub AreFresh : Plan → ℕ → Stream → List Record → Type 0
 AreFresh p h σ records =
-    All (λ r. (f : Flow) (i : ℕ) (payload : List ℕ) → Contains p.flows f → payload_for p f h i r ≡ Some payload → IsPacket p σ f i r.octets) records
+    All (λ r. (f : Flow) (i : ℕ) (a : Arrival) → Contains p.flows f → arrival_of p f r ≡ Some a → IsCandidate (window_of p f h) a.tick a.seq i
+    → IsPacket p σ f i r.octets) records
 
 -- no record at a tick of its window is packet i
 abbrev pub IsLost : Plan → Stream → Flow → List Record → ℕ → Type 0
@@ -73,10 +75,10 @@ pub record IsPlain (p : Plan) : Type 0 where
   pub dst : All (λ (f : Flow). length f.dst ≡ 6) p.flows
   pub src : All (λ (f : Flow). length f.src ≡ 6) p.flows
 
--- Of a plan that meets the rules and is played so far, whatever the stream and the capture.
+-- Of a plan that meets the rules, whatever the stream and the capture.
 abbrev pub SamplesAreDelayed : Type 0
 SamplesAreDelayed =
-    (p : Plan) (h : ℕ) (σ : Stream) (records : List Record) → IsGood p → IsSimple p → IsPlain p → IsStream p h σ
+    (p : Plan) (h : ℕ) (σ : Stream) (records : List Record) → IsGood p → IsPlain p → IsStream p h σ
     → AreUnaltered p h σ records → AreFresh p h σ records → PlaysStream p h σ records (all_entries p h records)
 
 -- A plan that is read from text has addresses of six octets.

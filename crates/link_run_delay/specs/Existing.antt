@@ -1,10 +1,10 @@
 -- That there are octets of each packet of a stream. This is the project's own.
 use Rattle.std.specs.Prelude.{◌≡◌, ◌<◌, ℕ, List, All, Contains}
 use Rattle.carrier_plan.specs.declared.plan.Flow.{Flow}
-use Rattle.carrier_plan.specs.declared.plan.Mode.TheVariants.{Bytes}
 use Rattle.carrier_plan.specs.declared.plan.Plan.{Plan}
 use Rattle.link_sender.specs.Packets.{IsPacket}
-use Rattle.link_sender.specs.Stream.{Stream}
+use Rattle.link_sender.specs.Stream.{Stream, IsStream}
+use Rattle.plan_checker.specs.Packets.{run_packets}
 use Rattle.plan_checker.specs.Rules.{IsGood}
 
 -- the numbers are octets
@@ -17,6 +17,7 @@ pub record HasPacket (p : Plan) (σ : Stream) (f : Flow) (i : ℕ) : Type 0 wher
   pub packet : IsPacket p σ f i octets
   pub are_octets : AreOctets f.dst → AreOctets f.src → AreOctets octets
 
--- of a plan in mode `bytes` that meets the rules, whatever the stream
+-- of a plan that meets the rules, in every mode, whatever the stream
 abbrev pub PacketsExist : Type 0
-PacketsExist = (p : Plan) (σ : Stream) (f : Flow) (i : ℕ) → IsGood p → p.mode ≡ Bytes → Contains p.flows f → HasPacket p σ f i
+PacketsExist =
+    (p : Plan) (h : ℕ) (σ : Stream) (f : Flow) (i : ℕ) → IsGood p → IsStream p h σ → Contains p.flows f → i < run_packets p f h → HasPacket p σ f i

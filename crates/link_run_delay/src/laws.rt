@@ -7,6 +7,7 @@ pub fn samples_are_delayed()
     ensures { SamplesAreDelayed }
 {
     plan_checker::bits_have_one_sample();
+    roe_mappers::parts_are_given_back();
 }
 
 /// A plan that is read from text has addresses of six octets.
@@ -14,7 +15,9 @@ pub fn read_plans_are_plain()
     ensures { ReadPlansArePlain }
 {}
 
-/// There are octets of each packet of a stream, whatever the stream, of every plan in mode `bytes` that meets the rules.
+/// There are octets of each packet of a stream, whatever the stream, of every plan that meets the rules.
 pub fn packets_exist()
     ensures { PacketsExist }
-{}
+{
+    line_code::spelled_in_ten_bits();
+}
