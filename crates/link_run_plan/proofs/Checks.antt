@@ -1,5 +1,5 @@
 -- The promise of `check`, from what every call promises.
-use Rattle.std.proofs.Common.{IsTrue, ◌≡◌, ◌≢◌, ℕ, List, refl, sym, ap, subst, ◌∙◌, false, Option, Some, None, Ok}
+use Rattle.std.proofs.Common.{IsTrue, ◌≡◌, ◌≢◌, ℕ, List, [], refl, sym, ap, subst, ◌∙◌, false, Option, Some, Ok}
 use Rattle.std.specs.FinMap.{get}
 use Rattle.link_base.specs.Shelf.{Files, Shown}
 use Rattle.link_base.specs.Sink.{Taken, Appends}
@@ -10,11 +10,12 @@ use Rattle.plan_checker.specs.Rules.{IsGood, IsFirstFailure}
 use Rattle.plan_checker.proofs.Verdicts.{VerdictIsComputed-holds}
 use Rattle.link_run_feed.specs.declared.status.Status.{Status}
 use Rattle.link_run_feed.specs.declared.status.Status.TheVariants.{Done, No, PlanText, ReadFault}
-use Rattle.link_run_feed.specs.Answer.{is_answer}
+use Rattle.link_run_feed.specs.Answer.{Answer, is_answer}
 use Rattle.link_run_feed.specs.Course.{Course, says, on_octets}
 use Rattle.link_run_feed.specs.Promises.{Promises}
 use Rattle.link_run_plan.specs.Check.{check}
 use Rattle.link_run_plan.specs.ChecksPlan.{ChecksPlan}
+use Rattle.link_run_plan.specs.OfOctets.{AnswersFile, ChecksFile, took}
 use Rattle.link_run_plan.specs.OnPlan.{by_octets, on_plan}
 use Rattle.link_run_plan.specs.Texts.{yes_text, no_text}
 use Rattle.link_run_plan.proofs.PlanCases.{PlanCase, is_good, fails, is_none, no_file, plan_case, good_course}
@@ -86,4 +87,19 @@ checks name shelf shelf' sink sink' status promises told =
       first = λ rule item no.
           let all = promises.answers (ap is_answer no) told in
           first_of shelf.held found sink sink' rule item course (plan_case rest shelf.held found) (sym no ∙ all.answer) all.written;
+    }
+
+-- so does a call whose answer is known
+pub checks_file : (octets : List ℕ) (status : Status) (text : List ℕ) → AnswersFile octets status text → ChecksFile octets status text
+unfolding on_plan
+checks_file octets status text answers = λ name held here.
+    let found = get held name in
+    let course = on_octets (by_octets rest) held found in
+    let is : course.answer ≡ record { status = status; text = text } = answers name held here in
+    let wrote : Appends course.answer.text (took []) (took text) = record { tells = refl; written = λ told. ap (λ (a : Answer). a.text) (sym is) } in record {
+      yes = λ done. yes_of held found (took []) (took text) course (plan_case rest held found) (sym done ∙ ap (λ (a : Answer). a.status) (sym is)) wrote;
+      only_yes = λ octets p here is_plan good answered.
+          ap (λ (a : Answer). a.status) (sym is) ∙ ap (λ (c : Course). c.answer.status) (good_course rest held found octets p here is_plan ((VerdictIsComputed-holds.good p).1 good));
+      first = λ rule item no.
+          first_of held found (took []) (took text) rule item course (plan_case rest held found) (sym no ∙ ap (λ (a : Answer). a.status) (sym is)) wrote;
     }

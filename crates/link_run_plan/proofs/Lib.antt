@@ -1,4 +1,5 @@
 pub mod Checks
+pub mod FileAnswers
 pub mod FileReading
 pub mod Judging
 pub mod PlanCases

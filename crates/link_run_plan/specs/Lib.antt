@@ -1,5 +1,6 @@
 pub mod Check
 pub mod ChecksPlan
+pub mod OfOctets
 pub mod OnPlan
 pub mod PlanCalls
 pub mod PlanFile

@@ -30,8 +30,8 @@ pub fn on_plan<H: Shelf, K: Sink>(
     }
 }
 
-// Judges the octets of a plan's file, and gives the answer where they are no plan that meets the rules.
-fn judge<K: Sink>(alloc: Global, octets: &[u8], out: &mut K) -> Result<Checked, Status>
+/// Judges the octets of a plan's file, and gives the answer where they are no plan that meets the rules.
+pub(crate) fn judge<K: Sink>(alloc: Global, octets: &[u8], out: &mut K) -> Result<Checked, Status>
     ensures judged { IsJudged (plan_of octets.now) (K.taken out.old) (K.taken out.new) result }
     ensures usage { IfErr result (λ status. status ≢ Status.Usage) }
 {

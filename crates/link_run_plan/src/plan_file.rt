@@ -1,7 +1,7 @@
 // Reads the file of a plan.
 ghost use Rattle.std.specs.Prelude.{◌≡◌, take, IsTrue, Some, IfOk, IsErrOf};
 ghost use Rattle.link_base.specs.Shelf.{SameFiles};
-ghost use Rattle.link_run_feed.specs.Counts.{Counts};
+ghost use Rattle.link_run_feed.specs.FaultCounts.{FaultCounts};
 ghost use Rattle.link_run_plan.specs.PlanFile.{plan_limit, IsPlanFile, FailsAtFile, FailsToRead};
 ghost use Rattle.link_run_plan.specs.declared.plan_file.FileError.TheVariants.{Memory};
 
@@ -29,7 +29,7 @@ impl From<AllocError> for FileError {
 // Reads the selected file, up to its first 65,537 octets.
 fn read_selected<H: Shelf>(alloc: Global, shelf: &mut H) -> Result<Vec<u8>, FileError>
     ensures files { SameFiles (H.shown shelf.old) (H.shown shelf.new) }
-    ensures reads { Counts (IsErrOf result FileError.Fault) (H.shown shelf.old).faults (H.shown shelf.new).faults }
+    ensures reads { FaultCounts (IsErrOf result FileError.Fault) (H.shown shelf.old).faults (H.shown shelf.new).faults }
     ensures octets { IsTrue (H.shown shelf.old).tells → IfOk result (λ octets. octets.items ≡ take plan_limit (H.shown shelf.old).left) }
     ensures chosen { IsTrue (H.shown shelf.old).tells → (H.shown shelf.new).chosen ≡ (H.shown shelf.old).chosen }
     ensures fault { IsTrue (H.shown shelf.old).tells → IsErrOf result FileError.Fault → FailsToRead (H.shown shelf.old) (H.shown shelf.new) }
@@ -51,7 +51,7 @@ pub fn read_plan_file<H: Shelf>(
     name: &str,
 ) -> Result<Vec<u8>, FileError>
     ensures files { SameFiles (H.shown shelf.old) (H.shown shelf.new) }
-    ensures reads { Counts (IsErrOf result FileError.Fault) (H.shown shelf.old).faults (H.shown shelf.new).faults }
+    ensures reads { FaultCounts (IsErrOf result FileError.Fault) (H.shown shelf.old).faults (H.shown shelf.new).faults }
     ensures octets { IsTrue (H.shown shelf.old).tells → IfOk result (λ octets. IsPlanFile name.now (H.shown shelf.old).held octets.items) }
     ensures chosen { IsTrue (H.shown shelf.old).tells → ¬ IsErrOf result FileError.Fault → (H.shown shelf.new).chosen ≡ Some name.now }
     ensures fault { IsTrue (H.shown shelf.old).tells → IsErrOf result FileError.Fault → FailsAtFile name.now (H.shown shelf.old) (H.shown shelf.new) }

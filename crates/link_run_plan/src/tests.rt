@@ -17,6 +17,12 @@ const TOP: &str = "version = 1\noption = 1\nmode = \"bytes\"\nplayout = 2\n";
 /// One carrier of one sample in each frame, with 8 bits of I and of Q.
 const CARRIER: &str = "[[carrier]]\nmethod = 1\ns = 1\nk = 1\nm = 8\nstart = 0\nsize = 16\n";
 
+/// The keys of a plan before its carriers, in version 2.
+const TOP_OF_PIECES: &str = "version = 2\noption = 1\nmode = \"bytes\"\nplayout = 2\n";
+
+/// The same carrier, without pieces.
+const CARRIER_IN_PIECES: &str = "[[carrier]]\nmethod = 1\ns = 1\nk = 1\nm = 8\npieces = []\n";
+
 /// One flow of that carrier, of one frame in a packet.
 const FLOW: &str =
     "[[flow]]\nid = 7\ndst = \"020000000001\"\nsrc = \"020000000002\"\ncontrol = true\ncarriers = [0]\nframes = 1\nlmin = 0\nlmax = 2\ncap = 3\np = 4\nq = 4\n";
@@ -204,18 +210,37 @@ type Row<'a> = (&'a str, &'a str, &'a str, Status);
 
 fn plan_of(alloc: Global, top: &str, carriers: &str, flows: &str) -> Result<String, NoMemory> {
     let mut text = String::from_str(alloc, top)?;
-    text.push_str(carriers)?;
-    text.push_str(flows)?;
+    for part in [carriers, flows] {
+        text.push_str(part)?;
+    }
     Ok(text)
+}
+
+fn shelf_of(alloc: Global, file: &[u8]) -> Result<MemShelf, NoMemory> {
+    let mut shelf = MemShelf::new(alloc, AMPLE);
+    shelf.add("a", file)?;
+    Ok(shelf)
 }
 
 // Checks the plan of this text.
 fn check_text(alloc: Global, file: &[u8]) -> Result<(Status, Vec<u8>), NoMemory> {
-    let mut shelf = MemShelf::new(alloc, AMPLE);
-    shelf.add("a", file)?;
+    let mut shelf = shelf_of(alloc, file)?;
     let mut out = MemSink::new(alloc, AMPLE, AMPLE)?;
     let status = check_plan(alloc, "a", &mut shelf, &mut out);
     Ok((status, Vec::from_slice(alloc, out.octets())?))
+}
+
+fn assert_answer(
+    rt: &impl Abort,
+    alloc: Global,
+    file: &[u8],
+    text: &str,
+    status: Status,
+) -> Result<(), NoMemory> {
+    let (given, written) = check_text(alloc, file)?;
+    assert_eq!(rt; written.as_slice(), text.as_bytes());
+    assert_eq!(rt; given, status);
+    Ok(())
 }
 
 // Checks the plan once for each row.
@@ -227,9 +252,7 @@ fn assert_answers(
 ) -> Result<(), Fail> {
     for (old, new, text, status) in rows {
         let changed = plan.replacen(alloc, *old, *new, 1)?;
-        let (given, written) = check_text(alloc, changed.as_str().as_bytes())?;
-        assert_eq!(rt; written.as_slice(), text.as_bytes(), "{new}");
-        assert_eq!(rt; given, *status, "{new}");
+        assert_answer(rt, alloc, changed.as_str().as_bytes(), text, *status)?;
     }
     Ok(())
 }
@@ -237,43 +260,63 @@ fn assert_answers(
 #[test]
 fn a_plan_is_answered_by_its_first_failure(rt: HostRuntime) -> Result<(), Fail> {
     let plan = plan_of(rt.alloc(), TOP, CARRIER, FLOW)?;
-    assert_answers(&rt, rt.alloc(), plan.as_str(), &ONE_CARRIER)?;
-    assert_answers(&rt, rt.alloc(), LTE_PAIR, &PAIR)?;
-    let in_pieces = plan
-        .replacen(rt.alloc(), "version = 1", "version = 2", 1)?
-        .replacen(rt.alloc(), "start = 0\nsize = 16", "pieces = []", 1)?;
-    assert_answers(&rt, rt.alloc(), in_pieces.as_str(), &IN_PIECES)
+    assert_answers(&rt, rt.alloc(), plan.as_str(), &ONE_CARRIER)
+}
+
+#[test]
+fn a_plan_of_two_carriers_is_answered(rt: HostRuntime) -> Result<(), Fail> {
+    assert_answers(&rt, rt.alloc(), LTE_PAIR, &PAIR)
+}
+
+#[test]
+fn a_plan_in_pieces_is_answered(rt: HostRuntime) -> Result<(), Fail> {
+    let plan = plan_of(rt.alloc(), TOP_OF_PIECES, CARRIER_IN_PIECES, FLOW)?;
+    assert_answers(&rt, rt.alloc(), plan.as_str(), &IN_PIECES)
+}
+
+// The plan of one carrier, with a comment up to so many octets.
+fn padded(alloc: Global, count: usize) -> Result<Vec<u8>, NoMemory> {
+    let plan = plan_of(alloc, TOP, CARRIER, FLOW)?;
+    let mut octets = Vec::from_slice(alloc, plan.as_str().as_bytes())?;
+    for _ in octets.len()..count {
+        octets.push(b'#')?;
+    }
+    Ok(octets)
 }
 
 #[test]
 fn a_plan_of_65536_octets_is_read_and_a_longer_one_is_long(rt: HostRuntime) -> Result<(), Fail> {
-    let plan = plan_of(rt.alloc(), TOP, CARRIER, FLOW)?;
-    let mut octets = Vec::from_slice(rt.alloc(), plan.as_str().as_bytes())?;
-    for _ in octets.len()..65_536 {
-        octets.push(b'#')?;
+    for (count, text, status) in [
+        (65_536, YES, Status::Done),
+        (65_537, "plan long\n", Status::PlanText(PlanText::Long)),
+    ] {
+        let octets = padded(rt.alloc(), count)?;
+        assert_answer(&rt, rt.alloc(), &octets, text, status)?;
     }
-    let (_, text) = check_text(rt.alloc(), octets.as_slice())?;
-    assert_eq!(rt; text.as_slice(), YES.as_bytes());
-    octets.push(b'#')?;
-    let (status, text) = check_text(rt.alloc(), octets.as_slice())?;
-    assert_eq!(rt; text.as_slice(), b"plan long\n".as_slice());
-    assert_eq!(rt; status, Status::PlanText(PlanText::Long));
     Ok(())
+}
+
+// The carriers of the plan of this name, or the status that ends the call, and what was written.
+fn carriers_of(
+    alloc: Global,
+    name: &str,
+    shelf: &mut MemShelf,
+) -> Result<(Result<usize, Status>, usize), NoMemory> {
+    let mut out = MemSink::new(alloc, AMPLE, AMPLE)?;
+    let carriers = match on_plan(alloc, name, shelf, &mut out) {
+        Ok(checked) => Ok(checked.plan().carriers.len()),
+        Err(status) => Err(status),
+    };
+    Ok((carriers, out.octets().len()))
 }
 
 #[test]
 fn a_call_goes_on_by_a_plan_that_holds(rt: HostRuntime) -> Result<(), Fail> {
     let plan = plan_of(rt.alloc(), TOP, CARRIER, FLOW)?;
-    let mut shelf = MemShelf::new(rt.alloc(), AMPLE);
-    shelf.add("a", plan.as_str().as_bytes())?;
-    let mut out = MemSink::new(rt.alloc(), AMPLE, AMPLE)?;
-    match on_plan(rt.alloc(), "a", &mut shelf, &mut out) {
-        Ok(checked) => assert_eq!(rt; checked.plan().carriers.len(), 1),
-        Err(status) => assert_eq!(rt; status, Status::Done),
+    let mut shelf = shelf_of(rt.alloc(), plan.as_str().as_bytes())?;
+    for (name, carriers) in [("a", Ok(1)), ("b", Err(Status::ReadFault))] {
+        assert_eq!(rt; carriers_of(rt.alloc(), name, &mut shelf)?, (carriers, 0));
     }
-    assert_eq!(rt; out.octets().len(), 0);
-    let missing = on_plan(rt.alloc(), "b", &mut shelf, &mut out);
-    assert_eq!(rt; missing.err(), Some(Status::ReadFault));
     explain_plan(&rt, "b", &Status::No { rule: 1, item: 0 })?;
     Ok(())
 }

@@ -1,5 +1,5 @@
 // What people are told of a plan that is refused.
-use super::{CARRIER, FLOW, TOP, plan_of};
+use super::{CARRIER, FLOW, TOP, TOP_OF_PIECES, plan_of};
 use crate::faults_in_words::fault_in_words;
 use crate::rules_in_words::in_words;
 use carrier_plan::{ReadError, read};
@@ -10,6 +10,18 @@ use std::test::Fail;
 
 /// The line of `TOP`, its mode and its playout.
 const LINE: &str = "option = 1\nmode = \"bytes\"\nplayout = 2";
+
+/// A carrier of 32 samples in each frame, with 20 bits of I and of Q.
+const LARGE_CARRIER: &str =
+    "[[carrier]]\nmethod = 1\ns = 32\nk = 1\nm = 20\nstart = 0\nsize = 1280\n";
+
+/// A flow of nine frames in a packet.
+const FLOW_OF_NINE: &str =
+    "[[flow]]\nid = 7\ndst = \"020000000001\"\nsrc = \"020000000002\"\ncontrol = true\ncarriers = [0]\nframes = 9\nlmin = 0\nlmax = 2\ncap = 3\np = 4\nq = 4\n";
+
+/// A carrier of two pieces.
+const CARRIER_IN_PIECES: &str =
+    "[[carrier]]\nmethod = 1\ns = 1\nk = 1\nm = 8\npieces = [[0, 10], [100, 6]]\n";
 
 /// Two carriers in mode `aware`, each in a flow of its own.
 const TWO_FLOWS: &str =
@@ -43,280 +55,281 @@ fn assert_sentences(
     Ok(())
 }
 
+const OF_PLAN: [Row<'static>; 7] = [
+    ("option = 1", "option = 1", "every rule holds"),
+    (
+        "option = 1",
+        "option = 9",
+        "rule 1: option is 9, and has to be 1 to 7",
+    ),
+    (
+        CARRIER,
+        "",
+        "rule 2: the plan has 0 carriers, and has to have 1 to 64",
+    ),
+    (
+        FLOW,
+        "",
+        "rule 2: the plan has 0 flows, and has to have 1 to 8",
+    ),
+    (
+        "control = true",
+        "control = false",
+        "rule 3: flow 0 has control = false, and has to have true",
+    ),
+    (
+        "[0]",
+        "[1]",
+        "rule 3: flow 0 has carriers = [1], and has to list them from 0 on in order",
+    ),
+    (
+        "[0]",
+        "[]",
+        "rule 3: flow 0 lists 0 carriers, and has to list all 1 unless the mode is aware",
+    ),
+];
+
 #[test]
 fn a_rule_on_the_plan_is_told_with_its_figures(rt: HostRuntime) -> Result<(), Fail> {
     let plan = plan_of(rt.alloc(), TOP, CARRIER, FLOW)?;
-    let twice = plan_of(rt.alloc(), FLOW, FLOW, "")?;
-    let rows = [
-        ("option = 1", "option = 1", "every rule holds"),
-        (
-            "option = 1",
-            "option = 9",
-            "rule 1: option is 9, and has to be 1 to 7",
-        ),
-        (
-            CARRIER,
-            "",
-            "rule 2: the plan has 0 carriers, and has to have 1 to 64",
-        ),
-        (
-            FLOW,
-            "",
-            "rule 2: the plan has 0 flows, and has to have 1 to 8",
-        ),
-        (
-            FLOW,
-            twice.as_str(),
-            "rule 3: the plan has 2 flows, and has to have one unless its mode is aware",
-        ),
-        (
-            "control = true",
-            "control = false",
-            "rule 3: flow 0 has control = false, and has to have true",
-        ),
-        (
-            "[0]",
-            "[1]",
-            "rule 3: flow 0 has carriers = [1], and has to list them from 0 on in order",
-        ),
-        (
-            "[0]",
-            "[]",
-            "rule 3: flow 0 lists 0 carriers, and has to list all 1 unless the mode is aware",
-        ),
-    ];
-    assert_sentences(&rt, rt.alloc(), plan.as_str(), &rows)
+    assert_sentences(&rt, rt.alloc(), plan.as_str(), &OF_PLAN)
 }
+
+const OF_CARRIER: [Row<'static>; 10] = [
+    (
+        "k = 1",
+        "k = 0",
+        "rule 4, carrier 0: its k is 0, and has to divide 38400",
+    ),
+    (
+        "k = 1",
+        "k = 7",
+        "rule 4, carrier 0: its k is 7, and has to divide 38400",
+    ),
+    (
+        "k = 1",
+        "k = 100",
+        "rule 4, carrier 0: its k is 100, and has to be at most 96",
+    ),
+    (
+        "s = 1",
+        "s = 33",
+        "rule 4, carrier 0: its s is 33, and has to be 1 to 32 * k = 32",
+    ),
+    (
+        "s = 1\nk = 1",
+        "s = 16\nk = 2",
+        "rule 4, carrier 0: its rate s/k is 16/2, and has to be in lowest terms",
+    ),
+    (
+        "m = 8",
+        "m = 4294967295",
+        "rule 5, carrier 0: its m is 4294967295, and has to be 4 to 20",
+    ),
+    (
+        "s = 1\nk = 1\nm = 8\nstart = 0\nsize = 16",
+        "s = 35\nk = 12\nm = 15\nstart = 0\nsize = 86",
+        "rule 6, carrier 0: its size is 86, and 88 is prescribed, 2 * ceil(15 * 35 / 12) by method 1",
+    ),
+    (
+        "method = 1\ns = 1\nk = 1\nm = 8\nstart = 0\nsize = 16",
+        "method = 3\ns = 35\nk = 12\nm = 15\nstart = 0\nsize = 88",
+        "rule 6, carrier 0: its size is 88, and 90 is prescribed, 2 * 15 * ceil(35 / 12) by method 3",
+    ),
+    (
+        "start = 0",
+        "start = 105",
+        "rule 7, carrier 0: its start + size is 105 + 16 = 121, and has to be at most 120, the IQ bits of a frame on option 1",
+    ),
+    (
+        "start = 0",
+        "start = 4294967295",
+        "rule 7, carrier 0: its start + size is 4294967295 + 16 = 4294967311, and has to be at most 120, the IQ bits of a frame on option 1",
+    ),
+];
 
 #[test]
 fn a_rule_on_a_carrier_is_told_with_its_figures(rt: HostRuntime) -> Result<(), Fail> {
     let plan = plan_of(rt.alloc(), TOP, CARRIER, FLOW)?;
-    let rows = [
-        (
-            "k = 1",
-            "k = 0",
-            "rule 4, carrier 0: its k is 0, and has to divide 38400",
-        ),
-        (
-            "k = 1",
-            "k = 7",
-            "rule 4, carrier 0: its k is 7, and has to divide 38400",
-        ),
-        (
-            "k = 1",
-            "k = 100",
-            "rule 4, carrier 0: its k is 100, and has to be at most 96",
-        ),
-        (
-            "s = 1",
-            "s = 33",
-            "rule 4, carrier 0: its s is 33, and has to be 1 to 32 * k = 32",
-        ),
-        (
-            "s = 1\nk = 1",
-            "s = 16\nk = 2",
-            "rule 4, carrier 0: its rate s/k is 16/2, and has to be in lowest terms",
-        ),
-        (
-            "m = 8",
-            "m = 4294967295",
-            "rule 5, carrier 0: its m is 4294967295, and has to be 4 to 20",
-        ),
-        (
-            "s = 1\nk = 1\nm = 8\nstart = 0\nsize = 16",
-            "s = 35\nk = 12\nm = 15\nstart = 0\nsize = 86",
-            "rule 6, carrier 0: its size is 86, and 88 is prescribed, 2 * ceil(15 * 35 / 12) by method 1",
-        ),
-        (
-            "method = 1\ns = 1\nk = 1\nm = 8\nstart = 0\nsize = 16",
-            "method = 3\ns = 35\nk = 12\nm = 15\nstart = 0\nsize = 88",
-            "rule 6, carrier 0: its size is 88, and 90 is prescribed, 2 * 15 * ceil(35 / 12) by method 3",
-        ),
-        (
-            "start = 0",
-            "start = 105",
-            "rule 7, carrier 0: its start + size is 105 + 16 = 121, and has to be at most 120, the IQ bits of a frame on option 1",
-        ),
-        (
-            "start = 0",
-            "start = 4294967295",
-            "rule 7, carrier 0: its start + size is 4294967295 + 16 = 4294967311, and has to be at most 120, the IQ bits of a frame on option 1",
-        ),
-    ];
-    assert_sentences(&rt, rt.alloc(), plan.as_str(), &rows)
+    assert_sentences(&rt, rt.alloc(), plan.as_str(), &OF_CARRIER)
 }
+
+const OF_PIECES: [Row<'static>; 7] = [
+    ("m = 8", "m = 8", "every rule holds"),
+    (
+        "[[0, 10], [100, 6]]",
+        "[]",
+        "rule 6, carrier 0: it has 0 pieces, and has to have 1 to 4",
+    ),
+    (
+        "6]",
+        "5]",
+        "rule 6, carrier 0: the sizes of its 2 pieces add up to 15, and 16 is prescribed, 2 * ceil(8 * 1 / 1) by method 1",
+    ),
+    (
+        "[100",
+        "[115",
+        "rule 7, carrier 0: start + size of its piece 1 is 115 + 6 = 121, and has to be at most 120, the IQ bits of a frame on option 1",
+    ),
+    (
+        "[100",
+        "[9",
+        "rule 8, carrier 0: piece 1 of carrier 0 and piece 0 of carrier 0 share the IQ bits 9 to 9, and have to be apart",
+    ),
+    (
+        "[0, 10]",
+        "[0, 10, 1]",
+        "pieces of carrier 0 is an array with an array of 3, and has to be an array of pairs [start, size] of whole numbers from 0 to 4294967295",
+    ),
+    (
+        "pieces =",
+        "places =",
+        "carrier 0 has no pieces, which has to be an array of pairs [start, size] of whole numbers from 0 to 4294967295",
+    ),
+];
 
 #[test]
 fn pieces_are_told_with_their_figures(rt: HostRuntime) -> Result<(), Fail> {
-    let carrier = "[[carrier]]\nmethod = 1\ns = 1\nk = 1\nm = 8\npieces = [[0, 10], [100, 6]]\n";
-    let top = TOP.replacen(rt.alloc(), "version = 1", "version = 2", 1)?;
-    let plan = plan_of(rt.alloc(), top.as_str(), carrier, FLOW)?;
-    let rows = [
-        ("m = 8", "m = 8", "every rule holds"),
-        (
-            "[[0, 10], [100, 6]]",
-            "[]",
-            "rule 6, carrier 0: it has 0 pieces, and has to have 1 to 4",
-        ),
-        (
-            "6]",
-            "5]",
-            "rule 6, carrier 0: the sizes of its 2 pieces add up to 15, and 16 is prescribed, 2 * ceil(8 * 1 / 1) by method 1",
-        ),
-        (
-            "[100",
-            "[115",
-            "rule 7, carrier 0: start + size of its piece 1 is 115 + 6 = 121, and has to be at most 120, the IQ bits of a frame on option 1",
-        ),
-        (
-            "[100",
-            "[9",
-            "rule 8, carrier 0: piece 1 of carrier 0 and piece 0 of carrier 0 share the IQ bits 9 to 9, and have to be apart",
-        ),
-        (
-            "[0, 10]",
-            "[0, 10, 1]",
-            "pieces of carrier 0 is an array with an array of 3, and has to be an array of pairs [start, size] of whole numbers from 0 to 4294967295",
-        ),
-        (
-            "pieces =",
-            "places =",
-            "carrier 0 has no pieces, which has to be an array of pairs [start, size] of whole numbers from 0 to 4294967295",
-        ),
-    ];
-    assert_sentences(&rt, rt.alloc(), plan.as_str(), &rows)
+    let plan = plan_of(rt.alloc(), TOP_OF_PIECES, CARRIER_IN_PIECES, FLOW)?;
+    assert_sentences(&rt, rt.alloc(), plan.as_str(), &OF_PIECES)
 }
+
+const SHARED: [Row<'static>; 11] = [
+    ("id = 8", "id = 9", "every rule holds"),
+    (
+        "\"aware\"",
+        "\"bytes\"",
+        "rule 3: the plan has 2 flows, and has to have one unless its mode is aware",
+    ),
+    (
+        "start = 16",
+        "start = 15",
+        "rule 8, carrier 1: carrier 1 and carrier 0 share the IQ bits 15 to 15, and have to be apart",
+    ),
+    (
+        "id = 8",
+        "id = 256",
+        "rule 9: flow 1 has id 256, and an id has to be at most 255",
+    ),
+    (
+        "id = 8",
+        "id = 7",
+        "rule 9: flows 0 and 1 have id 7, and have to have different ones",
+    ),
+    (
+        "[1]",
+        "[2]",
+        "rule 9: flow 1 lists carrier 2, and the plan has 2 carriers, numbered from 0",
+    ),
+    (
+        "[1]",
+        "[1, 0]",
+        "rule 9: flow 1 lists carrier 0 after carrier 1, and a list has to ascend",
+    ),
+    (
+        "[1]",
+        "[]",
+        "rule 9: carrier 1 is in 0 flows, and has to be in one",
+    ),
+    (
+        "control = false",
+        "control = true",
+        "rule 9: 2 flows have control, and one has to have it",
+    ),
+    (
+        "carriers = [0]\nframes = 1",
+        "carriers = [0]\nframes = 65",
+        "rule 10, flow 0: its frames are 65, and have to be 1 to 64",
+    ),
+    (
+        "carriers = [1]\nframes = 1",
+        "carriers = [1]\nframes = 0",
+        "rule 10, flow 1: its frames are 0, and have to be 1 to 64",
+    ),
+];
 
 #[test]
 fn what_carriers_and_flows_share_is_told(rt: HostRuntime) -> Result<(), Fail> {
-    let rows = [
-        ("id = 8", "id = 9", "every rule holds"),
-        (
-            "start = 16",
-            "start = 15",
-            "rule 8, carrier 1: carrier 1 and carrier 0 share the IQ bits 15 to 15, and have to be apart",
-        ),
-        (
-            "id = 8",
-            "id = 256",
-            "rule 9: flow 1 has id 256, and an id has to be at most 255",
-        ),
-        (
-            "id = 8",
-            "id = 7",
-            "rule 9: flows 0 and 1 have id 7, and have to have different ones",
-        ),
-        (
-            "[1]",
-            "[2]",
-            "rule 9: flow 1 lists carrier 2, and the plan has 2 carriers, numbered from 0",
-        ),
-        (
-            "[1]",
-            "[1, 0]",
-            "rule 9: flow 1 lists carrier 0 after carrier 1, and a list has to ascend",
-        ),
-        (
-            "[1]",
-            "[]",
-            "rule 9: carrier 1 is in 0 flows, and has to be in one",
-        ),
-        (
-            "control = false",
-            "control = true",
-            "rule 9: 2 flows have control, and one has to have it",
-        ),
-        (
-            "carriers = [0]\nframes = 1",
-            "carriers = [0]\nframes = 65",
-            "rule 10, flow 0: its frames are 65, and have to be 1 to 64",
-        ),
-        (
-            "carriers = [1]\nframes = 1",
-            "carriers = [1]\nframes = 0",
-            "rule 10, flow 1: its frames are 0, and have to be 1 to 64",
-        ),
-    ];
-    assert_sentences(&rt, rt.alloc(), TWO_FLOWS, &rows)
+    assert_sentences(&rt, rt.alloc(), TWO_FLOWS, &SHARED)
 }
+
+const OF_FLOW: [Row<'static>; 9] = [
+    (
+        "lmin = 0",
+        "lmin = 3",
+        "rule 11, flow 0: its lmin is 3, and has to be at most its lmax of 2",
+    ),
+    (
+        "lmax = 2",
+        "lmax = 100001",
+        "rule 11, flow 0: its lmax is 100001, and has to be at most 100000",
+    ),
+    (
+        "frames = 1\nlmin = 0\nlmax = 2",
+        "frames = 4\nlmin = 0\nlmax = 3",
+        "rule 12, flow 0: playout is 2, and has to be at least frames - 1 + lmax = 4 - 1 + 3 = 6",
+    ),
+    (
+        "playout = 2",
+        "playout = 200001",
+        "rule 12, flow 0: playout is 200001, and has to be at most 200000",
+    ),
+    (
+        "p = 4",
+        "p = 0",
+        "rule 13, flow 0: its p is 0, and has to be 1 to 65536",
+    ),
+    (
+        "q = 4",
+        "q = 65537",
+        "rule 13, flow 0: its q is 65537, and has to be 1 to 65536",
+    ),
+    (
+        "p = 4\nq = 4",
+        "p = 2\nq = 1",
+        "rule 13, flow 0: its p * q is 2 * 1 = 2, and has to be at least 3 for lmin = 0, lmax = 2, frames = 1",
+    ),
+    (
+        "cap = 3",
+        "cap = 2",
+        "rule 14, flow 0: its cap is 2, and has to be 3 to 4096",
+    ),
+    (
+        "playout = 2",
+        "playout = 4096",
+        "rule 14, flow 0: it has to hold 4097 packets for playout = 4096, lmin = 0, frames = 1, and may hold at most 4096",
+    ),
+];
 
 #[test]
 fn a_rule_on_a_flow_is_told_with_its_figures(rt: HostRuntime) -> Result<(), Fail> {
     let plan = plan_of(rt.alloc(), TOP, CARRIER, FLOW)?;
-    let rows = [
-        (
-            "lmin = 0",
-            "lmin = 3",
-            "rule 11, flow 0: its lmin is 3, and has to be at most its lmax of 2",
-        ),
-        (
-            "lmax = 2",
-            "lmax = 100001",
-            "rule 11, flow 0: its lmax is 100001, and has to be at most 100000",
-        ),
-        (
-            "frames = 1\nlmin = 0\nlmax = 2",
-            "frames = 4\nlmin = 0\nlmax = 3",
-            "rule 12, flow 0: playout is 2, and has to be at least frames - 1 + lmax = 4 - 1 + 3 = 6",
-        ),
-        (
-            "playout = 2",
-            "playout = 200001",
-            "rule 12, flow 0: playout is 200001, and has to be at most 200000",
-        ),
-        (
-            "p = 4",
-            "p = 0",
-            "rule 13, flow 0: its p is 0, and has to be 1 to 65536",
-        ),
-        (
-            "q = 4",
-            "q = 65537",
-            "rule 13, flow 0: its q is 65537, and has to be 1 to 65536",
-        ),
-        (
-            "p = 4\nq = 4",
-            "p = 2\nq = 1",
-            "rule 13, flow 0: its p * q is 2 * 1 = 2, and has to be at least 3 for lmin = 0, lmax = 2, frames = 1",
-        ),
-        (
-            "cap = 3",
-            "cap = 2",
-            "rule 14, flow 0: its cap is 2, and has to be 3 to 4096",
-        ),
-        (
-            "playout = 2",
-            "playout = 4096",
-            "rule 14, flow 0: it has to hold 4097 packets for playout = 4096, lmin = 0, frames = 1, and may hold at most 4096",
-        ),
-    ];
-    assert_sentences(&rt, rt.alloc(), plan.as_str(), &rows)
+    assert_sentences(&rt, rt.alloc(), plan.as_str(), &OF_FLOW)
 }
 
 // Option 7 has words of 16 octets: 16 of them are 256 octets, and 320 as symbols. A container of 1,280 bits has 160.
+const OF_PAYLOAD: [Row<'static>; 3] = [
+    (
+        LINE,
+        "option = 7\nmode = \"tunnel\"\nplayout = 20",
+        "rule 10, flow 0: its payload is 9 frames of 320 octets, in all 2880, and has to be 1 to 1492 octets",
+    ),
+    (
+        LINE,
+        "option = 7\nmode = \"bytes\"\nplayout = 20",
+        "rule 10, flow 0: its payload is 9 frames of 256 octets, in all 2304, and has to be 1 to 1492 octets",
+    ),
+    (
+        LINE,
+        "option = 7\nmode = \"aware\"\nplayout = 20",
+        "rule 10, flow 0: its payload is 9 frames of 176 octets, in all 1584, and has to be 1 to 1492 octets",
+    ),
+];
+
 #[test]
 fn the_payload_of_each_mode_is_told(rt: HostRuntime) -> Result<(), Fail> {
-    let carrier = "[[carrier]]\nmethod = 1\ns = 32\nk = 1\nm = 20\nstart = 0\nsize = 1280\n";
-    let flow = FLOW.replacen(rt.alloc(), "frames = 1", "frames = 9", 1)?;
-    let plan = plan_of(rt.alloc(), TOP, carrier, flow.as_str())?;
-    let rows = [
-        (
-            LINE,
-            "option = 7\nmode = \"tunnel\"\nplayout = 20",
-            "rule 10, flow 0: its payload is 9 frames of 320 octets, in all 2880, and has to be 1 to 1492 octets",
-        ),
-        (
-            LINE,
-            "option = 7\nmode = \"bytes\"\nplayout = 20",
-            "rule 10, flow 0: its payload is 9 frames of 256 octets, in all 2304, and has to be 1 to 1492 octets",
-        ),
-        (
-            LINE,
-            "option = 7\nmode = \"aware\"\nplayout = 20",
-            "rule 10, flow 0: its payload is 9 frames of 176 octets, in all 1584, and has to be 1 to 1492 octets",
-        ),
-    ];
-    assert_sentences(&rt, rt.alloc(), plan.as_str(), &rows)
+    let plan = plan_of(rt.alloc(), TOP, LARGE_CARRIER, FLOW_OF_NINE)?;
+    assert_sentences(&rt, rt.alloc(), plan.as_str(), &OF_PAYLOAD)
 }
 
 /// What changes in a plan, and what is said of the fault.
