@@ -22,9 +22,6 @@ pub fn explain(
         Status::ReadFault => explain_fault(rt, &form, shelf),
         Status::WriteFault => eprintln!(rt; "roe_link: standard output could not be written"),
         Status::NoMemory => eprintln!(rt; "roe_link: out of memory"),
-        Status::Unbuilt => eprintln!(rt;
-            "roe_link: the plan holds, but captures are played so far only by plans of option 1, mode bytes, method 1, k 1 and frames 1"
-        ),
     }
 }
 

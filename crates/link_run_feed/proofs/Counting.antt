@@ -1,4 +1,4 @@
--- Counts of failures over calls, and what is given behind what was written.
+-- Counts of failures over calls, and what is given after what was written.
 use Rattle.std.proofs.Common.{◌≡◌, ◌≢◌, ◌≤◌, inl, inr, ◌++◌, [], ℕ, List, Bool, arith, refl, sym, subst, ◌∙◌, append-nil, IsTrue}
 use Rattle.link_base.specs.Faults.{Rose}
 use Rattle.link_base.specs.Shelf.{Shown, SameFiles}
@@ -7,17 +7,17 @@ use Rattle.link_text.specs.Gathered.{Gathers}
 use Rattle.link_text.proofs.Gathering.{appends_then, front_then, behind}
 use Rattle.link_run_feed.specs.declared.status.Status.{Status}
 use Rattle.link_run_feed.specs.declared.status.Status.TheVariants.{ReadFault}
-use Rattle.link_run_feed.specs.Counts.{Counts, CountsReads}
+use Rattle.link_run_feed.specs.FaultCounts.{FaultCounts, CountsReads}
 use Rattle.link_run_feed.specs.Given.{IsGiven}
 
-pub counted_ok : (failed : Type 0) (before now : ℕ) → ¬ failed → now ≡ before → Counts failed before now
+pub counted_ok : (failed : Type 0) (before now : ℕ) → ¬ failed → now ≡ before → FaultCounts failed before now
 counted_ok failed before now not_failed same = record {
   never_falls = omega (arith, same);
   rose = λ h. absurd (not_failed h);
   stays = λ h. same;
 }
 
-pub counted_err : (failed : Type 0) (before now : ℕ) → failed → before ≤ now → Rose before now → Counts failed before now
+pub counted_err : (failed : Type 0) (before now : ℕ) → failed → before ≤ now → Rose before now → FaultCounts failed before now
 counted_err failed before now fails never_falls rose = record {
   never_falls = never_falls;
   rose = λ h. rose;
@@ -39,8 +39,8 @@ reads_failed reads_feed before now never_falls rose = record {
 }
 
 -- a count over two calls, of which the first succeeds
-pub counted_then : (failed : Type 0) (before mid now : ℕ) → mid ≡ before → Counts failed mid now → Counts failed before now
-counted_then failed before mid now same counts = subst (λ n. Counts failed n now) same counts
+pub counted_then : (failed : Type 0) (before mid now : ℕ) → mid ≡ before → FaultCounts failed mid now → FaultCounts failed before now
+counted_then failed before mid now same counts = subst (λ n. FaultCounts failed n now) same counts
 
 pub reads_then : (reads_feed : Bool) (status : Status) (before mid now : ℕ) → mid ≡ before → CountsReads reads_feed status mid now → CountsReads reads_feed status before now
 reads_then reads_feed status before mid now same counts = subst (λ n. CountsReads reads_feed status n now) same counts
@@ -52,7 +52,7 @@ files_stay first now next one two = record {
   held = λ told. two.held (subst IsTrue (sym one.tells) told) ∙ one.held told;
 }
 
--- a text is given behind what was written before it
+-- a text is given after what was written before it
 pub given_behind : (status result : Status) (moved text : List ℕ) (old mid new : Taken) → Appends moved old mid → mid.faults ≡ old.faults
     → IsGiven status text mid new result → IsGiven status (moved ++ text) old new result
 given_behind status result moved text old mid new written same (inl whole) =

@@ -13,7 +13,7 @@ use Rattle.link_run_feed.specs.declared.reason.Reason.{Reason}
 use Rattle.link_run_feed.specs.declared.status.Status.{Status}
 use Rattle.link_run_feed.specs.declared.status.Status.TheVariants.{FeedBad, ReadFault, WriteFault, NoMemory}
 use Rattle.link_run_feed.specs.Answer.{Answer, is_answer}
-use Rattle.link_run_feed.specs.Counts.{Counts, CountsReads}
+use Rattle.link_run_feed.specs.FaultCounts.{FaultCounts, CountsReads}
 use Rattle.link_run_feed.specs.Course.{Course, reached, on_feed, after_whole, answer_on_file, feed_names}
 use Rattle.link_run_feed.specs.Feed.{FeedForm, Read, At, begun, answer_on, read_on, feed_answer, settled, is_front}
 use Rattle.link_run_feed.specs.FeedCalls.{Concludes, IsStopped, WantsMemory}
@@ -187,7 +187,7 @@ wanted form name old mid new sink sink' same opens wants = record {
 -- the feed was selected and read
 pub feed_promises : {S : Type 0} (form : FeedForm S) (name : List ℕ) (old mid new : Shown) (sink sink' : Taken) (result : Status)
     → SameFiles old mid → mid.faults ≡ old.faults → (IsTrue old.tells → Opens name old mid)
-    → SameFiles mid new → CountsReads true result mid.faults new.faults → Counts (result ≡ WriteFault) sink.faults sink'.faults → (result ≡ NoMemory → sink' ≡ sink)
+    → SameFiles mid new → CountsReads true result mid.faults new.faults → FaultCounts (result ≡ WriteFault) sink.faults sink'.faults → (result ≡ NoMemory → sink' ≡ sink)
     → (IsTrue mid.tells → result ≡ NoMemory → WantsMemory mid.left mid new) → (IsTrue mid.tells → result ≢ NoMemory → Concludes form begun mid.left mid new sink sink' result)
     → Promises true (on_feed form name old.held) old new sink sink' result
 feed_promises form name old mid new sink sink' result opened count opens files reads writes nothing wants concludes =

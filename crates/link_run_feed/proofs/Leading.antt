@@ -2,36 +2,37 @@
 use Rattle.std.proofs.Common.{◌≡◌, ◌≢◌, ◌+◌, inl, inr, ◌++◌, ◌∷◌, [], ℕ, List, length, refl, sym, ap, subst, ◌∙◌, append_assoc, append-nil, Bool, true, false, Option, Some, None, Result, Ok, Err}
 use Rattle.std.specs.Prelude.{nat_lt, codes, bytes_eq, if◌then◌else◌}
 use Rattle.std.proofs.lemmas.Slice.Eq.{bytes_eq-Decides}
+use Rattle.std.proofs.lemmas.Bool.{ltb-true}
 use Rattle.link_text.specs.Lines.{lines_of, rest_of}
 use Rattle.link_run_feed.specs.declared.reason.Reason.{Reason}
 use Rattle.link_run_feed.specs.declared.reason.Reason.TheVariants as reason
 use Rattle.link_run_feed.specs.declared.status.Status.TheVariants.{Done}
 use Rattle.link_run_feed.specs.Feed.{At, start, in_lines, ended, is_bad, Step, Read, LineForm, FeedForm, bad, by_header, by_line, by_end, line_step, read_more, read_items, step_at, answer_at, answer_of, read_on, answer_on, begun, settled, feed_answer}
-use Rattle.link_run_feed.specs.Leads.{LeadTo, IsSettledBy, IsDone}
+use Rattle.link_run_feed.specs.Leads.{LeadTo, EndsGood, IsSettledBy, IsDone}
 use Rattle.link_run_feed.proofs.Folds.{items_bad}
 
 -- what a line of the form does, by what it is
 data LineIs {S : Type 0} (form : LineForm S) (s : S) (line : List ℕ) (step : Step S) : Type 0 where
   line_good : (next : S) (settled : List ℕ) → form.line s line ≡ Ok (next, settled) → step ≡ record { at = in_lines next; settled = settled } → LineIs form s line step
   line_last : line ≡ codes "end" → form.may_end s ≡ true → step ≡ record { at = ended s; settled = [] } → LineIs form s line step
-  line_none : (why : Reason) → step ≡ bad why → LineIs form s line step
+  line_none : (why : Reason) → EndsGood form s (line ∷ []) → step ≡ bad why → LineIs form s line step
 
 module _ {S : Type 0} (form : LineForm S) (s : S) (line : List ℕ) where
   by_result : (result : Result (S × List ℕ) Reason) → form.line s line ≡ result → LineIs form s line (by_line result)
   by_result (Ok given) is = line_good given.0 given.1 is refl
-  by_result (Err why) is = line_none why refl
+  by_result (Err why) is = line_none why (inr (inr (why, is))) refl
 
   by_may : (may : Bool) → line ≡ codes "end" → form.may_end s ≡ may → LineIs form s line (by_end s may)
   by_may true same is = line_last same is refl
-  by_may false same is = line_none reason.Count refl
+  by_may false same is = line_none reason.Count (inr (inl same)) refl
 
   by_test : (test : Bool) → bytes_eq line (codes "end") ≡ test → LineIs form s line (if test then by_end s (form.may_end s) else by_line (form.line s line))
   by_test true is = by_may (form.may_end s) ((bytes_eq-Decides line (codes "end")).0 is) refl
   by_test false is = by_result (form.line s line) refl
 
-  by_length : (long : Bool) → LineIs form s line (if long then bad reason.Long else line_step form s line)
-  by_length true = line_none reason.Long refl
-  by_length false = by_test (bytes_eq line (codes "end")) refl
+  by_length : (long : Bool) → nat_lt 4096 (length line) ≡ long → LineIs form s line (if long then bad reason.Long else line_step form s line)
+  by_length true is = line_none reason.Long (inl (ltb-true 4096 (length line) is)) refl
+  by_length false is = by_test (bytes_eq line (codes "end")) refl
 
 -- where lines lead
 abbrev IsTail : {S : Type 0} → LineForm S → At S → List (List ℕ) → S → Type 0
@@ -47,6 +48,7 @@ record Leads {S : Type 0} (form : LineForm S) (s : S) (lines : List (List ℕ)) 
   pub settled_text : List ℕ
   pub split : lines ≡ good_lines ++ following
   pub leads : LeadTo form s good_lines final settled_text
+  pub ends : EndsGood form final following
   pub all : r.text ≡ text ++ settled_text
   pub tail : IsTail form r.at following final
 
@@ -54,14 +56,14 @@ module _ {S : Type 0} (form : FeedForm S) where
   after_end : (s : S) (number : ℕ) (text line : List ℕ) (lines : List (List ℕ)) → line ≡ codes "end" → form.lines.may_end s ≡ true
       → Leads form.lines s (line ∷ lines) text (read_items (step_at form) (record { at = ended s; number = number; text = text ++ [] }) lines)
   after_end s number text line [] same may =
-      record { good_lines = []; following = line ∷ []; final = s; settled_text = []; split = refl; leads = (refl, refl); all = refl; tail = (refl, ap (λ (one : List ℕ). one ∷ []) same, may) }
+      record { good_lines = []; following = line ∷ []; final = s; settled_text = []; split = refl; leads = (refl, refl); ends = inr (inl same); all = refl; tail = (refl, ap (λ (one : List ℕ). one ∷ []) same, may) }
   after_end s number text line (next ∷ lines) same may =
       subst (Leads form.lines s (line ∷ next ∷ lines) text) (sym (items_bad form reason.After (number + 1) ((text ++ []) ++ []) lines))
-      (record { good_lines = []; following = line ∷ next ∷ lines; final = s; settled_text = []; split = refl; leads = (refl, refl); all = append-nil (text ++ []); tail = tt })
+      (record { good_lines = []; following = line ∷ next ∷ lines; final = s; settled_text = []; split = refl; leads = (refl, refl); ends = inr (inl same); all = append-nil (text ++ []); tail = tt })
 
   leads_by : (lines : List (List ℕ)) (s : S) (number : ℕ) (text : List ℕ) → Leads form.lines s lines text (read_items (step_at form) (record { at = in_lines s; number = number; text = text }) lines)
-  leads_by [] s number text = record { good_lines = []; following = []; final = s; settled_text = []; split = refl; leads = (refl, refl); all = sym (append-nil text); tail = refl }
-  leads_by (line ∷ lines) s number text = by_case (λ next settled. leads_by lines next (number + 1) (text ++ settled)) (by_length form.lines s line (nat_lt 4096 (length line)))
+  leads_by [] s number text = record { good_lines = []; following = []; final = s; settled_text = []; split = refl; leads = (refl, refl); ends = tt; all = sym (append-nil text); tail = refl }
+  leads_by (line ∷ lines) s number text = by_case (λ next settled. leads_by lines next (number + 1) (text ++ settled)) (by_length form.lines s line (nat_lt 4096 (length line)) refl)
     where
       more : Step S → Read S
       more step = read_items (step_at form) (read_more (in_lines s) number text step) lines
@@ -78,13 +80,14 @@ module _ {S : Type 0} (form : FeedForm S) where
             settled_text = text' ++ rest.settled_text;
             split = ap (λ xs. line ∷ xs) rest.split;
             leads = (next, text', rest.settled_text, is, rest.leads, refl);
+            ends = rest.ends;
             all = rest.all ∙ append_assoc text text' rest.settled_text;
             tail = rest.tail;
           })
       by_case later (line_last same may step) = subst (Leads form.lines s (line ∷ lines) text) (sym (ap more step)) (after_end s (number + 1) text line lines same may)
-      by_case later (line_none why step) =
+      by_case later (line_none why not_good step) =
           subst (Leads form.lines s (line ∷ lines) text) (sym (ap more step ∙ items_bad form why (number + 1) (text ++ []) lines))
-          (record { good_lines = []; following = line ∷ lines; final = s; settled_text = []; split = refl; leads = (refl, refl); all = refl; tail = tt })
+          (record { good_lines = []; following = line ∷ lines; final = s; settled_text = []; split = refl; leads = (refl, refl); ends = not_good; all = refl; tail = tt })
 
 -- what a header does, by what it is
 data HeaderIs {S : Type 0} (form : FeedForm S) (line : List ℕ) (step : Step S) : Type 0 where
@@ -138,6 +141,7 @@ module _ {S : Type 0} (form : FeedForm S) where
             lines = lines ∙ ap (λ xs. header ∷ xs) leads.split;
             opens = opens;
             leads = leads.leads;
+            ends = leads.ends;
             whole = leads.all;
           })
 

@@ -1,7 +1,8 @@
 -- Feeds as lists of good lines. This is the project's own.
-use Rattle.std.specs.Prelude.{codes, ◌≡◌, ◌⊎◌, true, ℕ, List, [], ◌∷◌, ◌++◌, Some, Ok}
+use Rattle.std.specs.Prelude.{codes, length, ◌≡◌, ◌<◌, ◌⊎◌, true, ℕ, List, [], ◌∷◌, ◌++◌, Some, Ok, Err}
 use Rattle.link_text.specs.Lines.{lines_of, rest_of}
 use Rattle.link_run_feed.specs.Feed.{LineForm, FeedForm}
+use Rattle.link_run_feed.specs.declared.reason.Reason.{Reason}
 
 -- These lines are good, each in the state that those before it give. They lead to this last state, and settle this text.
 abbrev pub LeadTo : {S : Type 0} → LineForm S → S → List (List ℕ) → S → List ℕ → Type 0
@@ -9,7 +10,12 @@ LeadTo form s [] last text = (last ≡ s) × (text ≡ [])
 LeadTo {S} form s (line ∷ lines) last text =
     (next : S) × (settled more : List ℕ) × (form.line s line ≡ Ok (next, settled)) × LeadTo form next lines last more × (text ≡ settled ++ more)
 
--- The octets begin with a header and good lines, and this text is what these settle.
+-- The first of these lines, where there is one, is not good in this state: it is too long, the last line, or no line of the form.
+abbrev pub EndsGood : {S : Type 0} → LineForm S → S → List (List ℕ) → Type 0
+EndsGood form s [] = Unit {0}
+EndsGood form s (line ∷ lines) = (4096 < length line) ⊎ (line ≡ codes "end") ⊎ ((why : Reason) × (form.line s line ≡ Err why))
+
+-- The octets begin with a header and good lines, up to the first line that is not good, and this text is what these settle.
 pub record IsLedBy {S : Type 0} (form : FeedForm S) (octets text : List ℕ) : Type 0 where
   pub header : List ℕ
   pub first : S
@@ -21,6 +27,7 @@ pub record IsLedBy {S : Type 0} (form : FeedForm S) (octets text : List ℕ) : T
   pub lines : lines_of octets ≡ header ∷ (good ++ following)
   pub opens : form.header header ≡ Some (first, front)
   pub leads : LeadTo form.lines first good last settled
+  pub ends : EndsGood form.lines last following
   pub whole : text ≡ front ++ settled
 
 -- what is settled of a feed: nothing, or what a header and the good lines after it settle

@@ -1,6 +1,6 @@
 pub mod Answer
 pub mod Code
-pub mod Counts
+pub mod FaultCounts
 pub mod Course
 pub mod Feed
 pub mod FeedCalls

@@ -9,7 +9,7 @@ use Rattle.link_run_feed.specs.declared.reason.Reason.{Reason}
 use Rattle.link_run_feed.specs.declared.status.Status.{Status}
 use Rattle.link_run_feed.specs.declared.status.Status.TheVariants.{FeedBad, ReadFault, WriteFault, NoMemory}
 use Rattle.link_run_feed.specs.Answer.{is_answer}
-use Rattle.link_run_feed.specs.Counts.{Counts, CountsReads}
+use Rattle.link_run_feed.specs.FaultCounts.{FaultCounts, CountsReads}
 use Rattle.link_run_feed.specs.Course.{Course, reached}
 use Rattle.link_run_feed.specs.Reasons.{bad_line}
 
@@ -66,7 +66,7 @@ pub record LeavesBadLine (course : Course) (held : Files) (before after : Taken)
 pub record Promises (reads_feed : Bool) (course : Course) (shelf shelf' : Shown) (sink sink' : Taken) (status : Status) : Type 0 where
   pub files : SameFiles shelf shelf'
   pub reads : CountsReads reads_feed status shelf.faults shelf'.faults
-  pub writes : Counts (status ≡ WriteFault) sink.faults sink'.faults
+  pub writes : FaultCounts (status ≡ WriteFault) sink.faults sink'.faults
   pub answers : IsTrue (is_answer status) → IsTrue shelf.tells → Told course sink sink' status
   pub prefix : status ≡ WriteFault → IsTrue shelf.tells → AppendsFront course.answer.text sink sink'
   pub reached : status ≡ ReadFault → IsTrue shelf.tells → StandsAt course shelf shelf'

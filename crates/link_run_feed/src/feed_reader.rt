@@ -1,7 +1,7 @@
 // Reads a feed from its header to its end, or to its first bad line.
 ghost use Rattle.std.specs.Prelude.{◌≡◌, ◌≢◌, ◌+◌, ◌^◌, ◌<◌, ◌≤◌, ◌++◌, ℕ, List, [], length, Option, None, IsTrue, IfSome, IfNone, MatchOption, Bool};
 ghost use Rattle.link_base.specs.Shelf.{SameFiles};
-ghost use Rattle.link_run_feed.specs.Counts.{Counts, CountsReads};
+ghost use Rattle.link_run_feed.specs.FaultCounts.{FaultCounts, CountsReads};
 ghost use Rattle.link_run_feed.specs.Course.{on_feed};
 ghost use Rattle.link_run_feed.specs.Feed.{in_lines, by_end, begun};
 ghost use Rattle.link_run_feed.specs.FeedCalls.{GoesOn, Concludes, WantsMemory, EndsLines, form_with};
@@ -20,7 +20,7 @@ use std::alloc::Global;
 fn conclude<F: Feed, K: Sink>(feed: &mut F, text: &mut TextBuffer, out: &mut K) -> Status
     ensures known { EndsLines result }
     ensures reads { result ≢ Status.ReadFault }
-    ensures writes { Counts (result ≡ Status.WriteFault) (K.taken out.old).faults (K.taken out.new).faults }
+    ensures writes { FaultCounts (result ≡ Status.WriteFault) (K.taken out.old).faults (K.taken out.new).faults }
     ensures given { (s : F.State) → F.stands feed.old s → IsTrue (F.lines.may_end s)
         → IsGiven Status.Done (text.old ++ F.lines.closing s) (K.taken out.old) (K.taken out.new) result }
 {
@@ -44,7 +44,7 @@ fn finish<F: Feed, H: Shelf, K: Sink>(
     ensures files { SameFiles (H.shown shelf.old) (H.shown shelf.new) }
     ensures known { EndsLines result }
     ensures reads { CountsReads Bool.true result (H.shown shelf.old).faults (H.shown shelf.new).faults }
-    ensures writes { Counts (result ≡ Status.WriteFault) (K.taken out.old).faults (K.taken out.new).faults }
+    ensures writes { FaultCounts (result ≡ Status.WriteFault) (K.taken out.old).faults (K.taken out.new).faults }
     ensures concludes { (header : List ℕ → Option (F.State × List ℕ)) (s : F.State) → F.stands feed.old s → IsTrue (H.shown shelf.old).tells
         → Concludes (form_with header F.lines) (record { at = (by_end s (F.lines.may_end s)).at; number = number; text = text.old })
         (reader.old.rest ++ (H.shown shelf.old).left) (H.shown shelf.old) (H.shown shelf.new) (K.taken out.old) (K.taken out.new) result }
@@ -75,7 +75,7 @@ fn read_line<F: Feed, H: Shelf, K: Sink>(
     ensures reads { MatchOption result ((H.shown shelf.new).faults ≡ (H.shown shelf.old).faults)
         (λ status. CountsReads Bool.true status (H.shown shelf.old).faults (H.shown shelf.new).faults) }
     ensures writes { MatchOption result ((K.taken out.new).faults ≡ (K.taken out.old).faults)
-        (λ status. Counts (status ≡ Status.WriteFault) (K.taken out.old).faults (K.taken out.new).faults) }
+        (λ status. FaultCounts (status ≡ Status.WriteFault) (K.taken out.old).faults (K.taken out.new).faults) }
     ensures fewer { IfNone result (F.lines_left feed.new < F.lines_left feed.old) }
     ensures still_fresh { IfNone result (reader.new.ended ≡ None) }
     ensures goes_on { IfNone result ((header : List ℕ → Option (F.State × List ℕ)) (s : F.State) → F.stands feed.old s → IsTrue (H.shown shelf.old).tells
@@ -117,7 +117,7 @@ fn read_lines<F: Feed, H: Shelf, K: Sink>(
     ensures files { SameFiles (H.shown shelf.old) (H.shown shelf.new) }
     ensures known { EndsLines result }
     ensures reads { CountsReads Bool.true result (H.shown shelf.old).faults (H.shown shelf.new).faults }
-    ensures writes { Counts (result ≡ Status.WriteFault) (K.taken out.old).faults (K.taken out.new).faults }
+    ensures writes { FaultCounts (result ≡ Status.WriteFault) (K.taken out.old).faults (K.taken out.new).faults }
     ensures concludes { (header : List ℕ → Option (F.State × List ℕ)) (s : F.State) → F.stands feed.old s → IsTrue (H.shown shelf.old).tells
         → Concludes (form_with header F.lines) (record { at = in_lines s; number = 1; text = text.old })
         (reader.old.rest ++ (H.shown shelf.old).left) (H.shown shelf.old) (H.shown shelf.new) (K.taken out.old) (K.taken out.new) result }
@@ -142,7 +142,7 @@ fn read_selected<F: Feed, H: Shelf, K: Sink>(
     ensures files { SameFiles (H.shown shelf.old) (H.shown shelf.new) }
     ensures usage { result ≢ Status.Usage }
     ensures reads { CountsReads Bool.true result (H.shown shelf.old).faults (H.shown shelf.new).faults }
-    ensures writes { Counts (result ≡ Status.WriteFault) (K.taken out.old).faults (K.taken out.new).faults }
+    ensures writes { FaultCounts (result ≡ Status.WriteFault) (K.taken out.old).faults (K.taken out.new).faults }
     ensures nothing { result ≡ Status.NoMemory → K.taken out.new ≡ K.taken out.old }
     ensures wants { IsTrue (H.shown shelf.old).tells → result ≡ Status.NoMemory → WantsMemory (H.shown shelf.old).left (H.shown shelf.old) (H.shown shelf.new) }
     ensures concludes { IsTrue (H.shown shelf.old).tells → result ≢ Status.NoMemory

@@ -24,8 +24,6 @@ pub enum Status {
     WriteFault,
     /// Memory could not be had.
     NoMemory,
-    /// The plan meets the rules, and captures are not played by such plans so far.
-    Unbuilt,
 }
 
 /// The number that the program ends with.
@@ -41,6 +39,5 @@ pub fn code(status: &Status) -> u8
         Status::ReadFault => 5,
         Status::WriteFault => 6,
         Status::NoMemory => 7,
-        Status::Unbuilt => 8,
     }
 }

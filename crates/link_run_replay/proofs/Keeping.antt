@@ -1,6 +1,6 @@
 -- What a replay keeps, as its records come.
-use Rattle.std.proofs.Common.{inl, inr, ◌≡◌, ◌∙◌, ◌+◌, ◌≤◌, ◌<◌, ◌++◌, ◌∷◌, [], ℕ, List, All, length, Option, Some, None, Result, Ok, Err, OnErr, sym, ap, subst, refl, arith, append_assoc, append-nil}
-use Rattle.std.specs.Prelude.{min, nat_le, nat_lt, slice_get, Contains}
+use Rattle.std.proofs.Common.{inl, inr, IsTrue, ◌≡◌, ◌∙◌, ◌+◌, ◌≤◌, ◌<◌, ◌++◌, ◌∷◌, [], ℕ, List, All, length, Option, Some, None, Result, Ok, Err, OnErr, sym, ap, subst, refl, arith, append_assoc, append-nil}
+use Rattle.std.specs.Prelude.{Bool, min, nat_le, nat_lt, slice_get, Contains}
 use Rattle.std.specs.List.{flat_map, range_with_len}
 use Rattle.std.proofs.lemmas.Bool.{cases_lt, cond-true, cond-false, lt-ltb, le-ltb, le-leb, lt-leb}
 use Rattle.std.proofs.lemmas.List.{length_push}
@@ -15,7 +15,6 @@ use Rattle.plan_checker.specs.Run.{ticks_of_run}
 use Rattle.link_receiver.specs.Laws.{TakenIsSettled}
 use Rattle.link_base.specs.Record.{Record}
 use Rattle.link_receiver.specs.Sessions.{SessionView, StandsFor}
-use Rattle.link_receiver.specs.Simple.{IsSimple}
 use Rattle.link_run_feed.specs.declared.reason.Reason.TheVariants.{Order, Many}
 use Rattle.link_run_capture.specs.Capture.{most_records, record_of}
 use Rattle.link_text.specs.Gathered.{Gathers, BreaksOff}
@@ -57,11 +56,11 @@ step_of_many s line r is ordered full =
 
 -- a record at a tick of the run came
 pub taken_early : (session after : SessionView) (s : Replayed) (r : Record) (lines_left lines_left' : ℕ) → IsPlayedTo session r.tick s → s.tick ≤ r.tick → r.tick < last_tick s
-    → after.plan ≡ session.plan → after.frames ≡ session.frames → after.tick ≡ session.tick
+    → after.plan ≡ session.plan → after.frames ≡ session.frames → after.tick ≡ session.tick → after.listed ≡ session.listed
     → ((records : List Record) → StandsFor session records → StandsFor after (records ++ record { tick = session.tick; octets = r.octets } ∷ []))
     → lines_left' + 1 ≡ lines_left → lines_left + length s.records ≡ most_records
     → KeepsRun after r.tick lines_left' (with_record s r)
-taken_early session after s r lines_left lines_left' played ordered within same_plan same_frames same_tick stands less few =
+taken_early session after s r lines_left lines_left' played ordered within same_plan same_frames same_tick same_listed stands less few =
     let here : session.tick ≡ r.tick = omega (arith, played.now) in
     let none : played.late ≡ [] = played.none_late (omega arith) in
     let all : s.records ≡ played.early = played.records ∙ ap (λ late. played.early ++ late) none ∙ append-nil played.early in record {
@@ -69,7 +68,7 @@ taken_early session after s r lines_left lines_left' played ordered within same_
         plan = same_plan ∙ played.plan;
         run = same_frames ∙ played.run;
         good = played.good;
-        simple = played.simple;
+        listed = subst (λ (b : Bool). IsTrue b) (sym same_listed) played.listed;
         now = same_tick ∙ played.now;
         early = played.early ++ r ∷ [];
         late = [];
@@ -91,7 +90,7 @@ taken_late session s r lines_left lines_left' played beyond less few = record {
     plan = played.plan;
     run = played.run;
     good = played.good;
-    simple = played.simple;
+    listed = played.listed;
     now = played.now;
     early = played.early;
     late = played.late ++ r ∷ [];
@@ -106,13 +105,13 @@ taken_late session s r lines_left lines_left' played beyond less few = record {
 
 -- play went on to a tick
 pub played_to : (session after : SessionView) (s : Replayed) (tick : ℕ) → IsPlayedTo session s.tick s → s.tick ≤ tick
-    → after.plan ≡ session.plan → after.frames ≡ session.frames → after.tick ≡ min tick (last_tick s)
+    → after.plan ≡ session.plan → after.frames ≡ session.frames → (IsTrue session.listed → IsTrue after.listed) → after.tick ≡ min tick (last_tick s)
     → ((records : List Record) → StandsFor session records → StandsFor after records) → IsPlayedTo after tick s
-played_to session after s tick played ordered same_plan same_frames now stands = record {
+played_to session after s tick played ordered same_plan same_frames lists now stands = record {
   plan = same_plan ∙ played.plan;
   run = same_frames ∙ played.run;
   good = played.good;
-  simple = played.simple;
+  listed = lists played.listed;
   now = now;
   early = played.early;
   late = played.late;
@@ -130,12 +129,12 @@ flat_map-same f g [] same = refl
 flat_map-same f g (x ∷ xs) same = ap (λ a. a ++ flat_map f xs) (same x) ∙ ap (λ b. g x ++ b) (flat_map-same f g xs same)
 
 -- the lines of the flows are the same with the records behind the run
-module _ (settled : TakenIsSettled) (p : Plan) (h : ℕ) (early late : List Record) (good : IsGood p) (simple : IsSimple p)
+module _ (settled : TakenIsSettled) (p : Plan) (h : ℕ) (early late : List Record) (good : IsGood p)
     (after_run : All (λ (r : Record). ticks_of_run p h ≤ r.tick) late) where
   flow_same : (place : ℕ) (found : Option Flow) → slice_get p.flows place ≡ found → line_of_flow p h early place found ≡ line_of_flow p h (early ++ late) place found
   flow_same place None is = refl
   flow_same place (Some flow) is =
-      ap (λ got. flow_line place got (run_packets p flow h)) (sym (settled p flow h early late good simple (contains_at p.flows place flow is) after_run))
+      ap (λ got. flow_line place got (run_packets p flow h)) (sym (settled p flow h early late good (contains_at p.flows place flow is) after_run))
 
   flows_same : flow_lines p h early ≡ flow_lines p h (early ++ late)
   flows_same =
@@ -146,7 +145,7 @@ pub closing_flows : TakenIsSettled → (session : SessionView) (s : Replayed) (t
     → flow_lines session.plan session.frames played.early ≡ flow_lines s.plan s.run_ticks s.records
 closing_flows settled session s tick played =
     ap (λ p. flow_lines p session.frames played.early) played.plan ∙ ap (λ h. flow_lines s.plan h played.early) played.run
-    ∙ flows_same settled s.plan s.run_ticks played.early played.late played.good played.simple played.after_run ∙ ap (flow_lines s.plan s.run_ticks) (sym played.records)
+    ∙ flows_same settled s.plan s.run_ticks played.early played.late played.good played.after_run ∙ ap (flow_lines s.plan s.run_ticks) (sym played.records)
 
 -- the tick at which the run ends
 pub last_same : (session : SessionView) (s : Replayed) (tick ticks : ℕ) → IsPlayedTo session tick s → ticks ≡ ticks_of_run session.plan session.frames → ticks ≡ last_tick s
@@ -172,13 +171,13 @@ module _ (session : SessionView) (s : Replayed) (latest lines_left : ℕ) (repla
       ∙ ap entry_lines (text_same session s (min tick (last_tick s)) within replay.played)
 
   pub next_played : (after : SessionView) (ticks end : ℕ) → ticks ≡ ticks_of_run session.plan session.frames → end ≡ min tick ticks
-      → after.plan ≡ session.plan → after.frames ≡ session.frames → (session.tick ≤ end → after.tick ≡ end)
+      → after.plan ≡ session.plan → after.frames ≡ session.frames → (IsTrue session.listed → IsTrue after.listed) → (session.tick ≤ end → after.tick ≡ end)
       → ((records : List Record) → StandsFor session records → StandsFor after records) → IsPlayedTo after tick s
-  next_played after ticks end is end_is same_plan same_frames at stands =
+  next_played after ticks end is end_is same_plan same_frames lists at stands =
       let last = last_same session s s.tick ticks replay.played is in
       let to : end ≡ min tick (last_tick s) = end_is ∙ ap (min tick) last in
       let ahead : session.tick ≤ end = omega (arith, replay.played.now, next_ordered) in
-      played_to session after s tick replay.played next_ordered same_plan same_frames (at ahead ∙ to) stands
+      played_to session after s tick replay.played next_ordered same_plan same_frames lists (at ahead ∙ to) stands
 
 -- What is left is written: the samples, the flows, and the last line.
 pub closing_text : (session : SessionView) (s : Replayed) (ticks : ℕ) → (played : IsPlayedTo session s.tick s) → ticks ≡ ticks_of_run session.plan session.frames
@@ -191,16 +190,16 @@ closing_text session s ticks played is =
     ∙ ap entry_lines (text_same session s (min (last_tick s) (last_tick s)) within played)
 
 pub played_on : (session after : SessionView) (s : Replayed) (ticks : ℕ) → IsPlayedTo session s.tick s → ticks ≡ ticks_of_run session.plan session.frames
-    → after.plan ≡ session.plan → after.frames ≡ session.frames → (session.tick ≤ ticks → after.tick ≡ ticks)
+    → after.plan ≡ session.plan → after.frames ≡ session.frames → (IsTrue session.listed → IsTrue after.listed) → (session.tick ≤ ticks → after.tick ≡ ticks)
     → ((records : List Record) → StandsFor session records → StandsFor after records) → IsPlayedTo after (last_tick s) s
-played_on session after s ticks played is same_plan same_frames at stands =
+played_on session after s ticks played is same_plan same_frames lists at stands =
     let last = last_same session s s.tick ticks played is in
     let ahead : session.tick ≤ ticks = omega (arith, played.now, last) in
     let now : after.tick ≡ min (last_tick s) (last_tick s) = omega (arith, at ahead, last) in record {
       plan = same_plan ∙ played.plan;
       run = same_frames ∙ played.run;
       good = played.good;
-      simple = played.simple;
+      listed = lists played.listed;
       now = now;
       early = played.early;
       late = played.late;

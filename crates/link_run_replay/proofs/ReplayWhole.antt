@@ -9,7 +9,6 @@ use Rattle.plan_checker.specs.Rules.{IsGood}
 use Rattle.plan_checker.specs.Run.{ticks_of_run}
 use Rattle.link_base.specs.Record.{Record}
 use Rattle.link_receiver.specs.Output.{entries_at, entries_below}
-use Rattle.link_receiver.specs.Simple.{IsSimple}
 use Rattle.link_receiver.proofs.Settled.{EntriesAreSettled-holds}
 use Rattle.link_text.specs.Printed.{ended}
 use Rattle.link_run_feed.specs.declared.reason.Reason.{Reason}
@@ -60,14 +59,14 @@ flat_map-ranges f g a (suc n) same =
     let below : t < a + suc n = omega (arith, within) in
     let on : a ≤ t = omega (arith, above) in same t on below))
 
-module _ (p : Plan) (h : ℕ) (good : IsGood p) (simple : IsSimple p) where
+module _ (p : Plan) (h : ℕ) (good : IsGood p) where
   -- later records change none of the entries before them
   between_settled : (records later : List Record) (from to limit : ℕ) → All (λ (r : Record). limit ≤ r.tick) later → to ≤ limit
       → entries_between p h (records ++ later) from to ≡ entries_between p h records from to
   unfolding entries_between
   between_settled records later from to limit after within =
       flat_map-ranges (entries_at p h (records ++ later)) (entries_at p h records) from (to - from)
-      (λ t above below. EntriesAreSettled-holds p h t records later good simple (λ k d inside. let past = after k d inside in omega (arith, past, above, below, within)))
+      (λ t above below. EntriesAreSettled-holds p h t records later good (λ k d inside. let past = after k d inside in omega (arith, past, above, below, within)))
 
   -- what was printed from a state on
   record Went (s last : Replayed) (lines : List (List ℕ)) (text : List ℕ) : Type 0 where
@@ -184,15 +183,15 @@ opened p (Some h) first front is =
     let same : (begun p h, []) ≡ (first, front) = cc in
     (h, refl, sym (ap (λ (q : Replayed × List ℕ). q.0) same), sym (ap (λ (q : Replayed × List ℕ). q.1) same))
 
-module _ (p : Plan) (octets : List ℕ) (good : IsGood p) (simple : IsSimple p) where
+module _ (p : Plan) (octets : List ℕ) (good : IsGood p) where
   by_led : (text : List ℕ) → IsLedBy (replay_form p) octets text → IsSettledText p octets text
   by_led text led =
       let opens = opened p (capture_length led.header) led.first led.front led.opens in
-      let went = leads p opens.0 good simple led.good (begun p opens.0) led.last led.settled refl refl (subst (λ s. LeadTo replay_lines s led.good led.last led.settled) opens.2 led.leads) in record {
+      let went = leads p opens.0 good led.good (begun p opens.0) led.last led.settled refl refl (subst (λ s. LeadTo replay_lines s led.good led.last led.settled) opens.2 led.leads) in record {
         h = opens.0;
         records = went.later;
         begins = record { header = led.header; lines = led.good; following = led.following; whole = led.lines; length_is = opens.1; reads = went.reads };
-        printed = led.whole ∙ ap (λ front. front ++ led.settled) opens.3 ∙ settles_all p opens.0 good simple led.last led.good led.settled went;
+        printed = led.whole ∙ ap (λ front. front ++ led.settled) opens.3 ∙ settles_all p opens.0 good led.last led.good led.settled went;
       }
 
   settles : (settled (replay_form p) octets ≡ []) ⊎ IsSettledText p octets (settled (replay_form p) octets)
@@ -205,17 +204,17 @@ module _ (p : Plan) (octets : List ℕ) (good : IsGood p) (simple : IsSimple p) 
   done is =
       let read = done_leads (replay_form p) octets is in
       let opens = opened p (capture_length read.header) read.first read.front read.opens in
-      let went = leads p opens.0 good simple read.good (begun p opens.0) read.last read.settled refl refl (subst (λ s. LeadTo replay_lines s read.good read.last read.settled) opens.2 read.leads) in record {
+      let went = leads p opens.0 good read.good (begun p opens.0) read.last read.settled refl refl (subst (λ s. LeadTo replay_lines s read.good read.last read.settled) opens.2 read.leads) in record {
         h = opens.0;
         records = went.later;
         capture = record { header = read.header; lines = read.good; whole = read.lines; after = read.nothing_after; length_is = opens.1; reads = went.reads };
         printed =
             read.whole ∙ ap (λ front. (front ++ read.settled) ++ replay_closing read.last) opens.3
-            ∙ prints_all p opens.0 good simple read.last read.good read.settled went;
+            ∙ prints_all p opens.0 good read.last read.good read.settled went;
       }
 
 pub TextIsWhole-holds : TextIsWhole
 TextIsWhole-holds = record {
-  settles = λ p octets good simple. settles p octets good simple;
-  done = λ p octets good simple is. done p octets good simple is;
+  settles = λ p octets good. settles p octets good;
+  done = λ p octets good is. done p octets good is;
 }

@@ -1,6 +1,5 @@
 -- A replay that is done has printed what all records of its capture give.
-use Rattle.std.proofs.Common.{IsTrue, ◌≡◌, ◌≢◌, ℕ, List, true, false, refl, sym, ap, subst, ◌∙◌, Option, Some, None, Ok}
-use Rattle.std.specs.Prelude.{Bool}
+use Rattle.std.proofs.Common.{IsTrue, ◌≡◌, ◌≢◌, ℕ, List, true, refl, sym, ap, subst, ◌∙◌, Option, Some, None, Ok}
 use Rattle.std.specs.FinMap.{get}
 use Rattle.carrier_plan.specs.PlanOf.{plan_of}
 use Rattle.carrier_plan.specs.declared.plan.Plan.{Plan}
@@ -9,10 +8,8 @@ use Rattle.plan_checker.specs.Rules.{IsGood}
 use Rattle.plan_checker.proofs.Verdicts.{VerdictIsComputed-holds}
 use Rattle.link_base.specs.Shelf.{Files, Shown}
 use Rattle.link_base.specs.Sink.{Taken, Appends}
-use Rattle.link_receiver.specs.Simple.{IsSimple, is_simple}
-use Rattle.link_receiver.proofs.Simplicity.{Decides-is_simple}
 use Rattle.link_run_feed.specs.declared.status.Status.{Status}
-use Rattle.link_run_feed.specs.declared.status.Status.TheVariants.{Done, No, PlanText, ReadFault, Unbuilt}
+use Rattle.link_run_feed.specs.declared.status.Status.TheVariants.{Done, No, PlanText, ReadFault}
 use Rattle.link_run_feed.specs.Answer.{Answer, is_answer}
 use Rattle.link_run_feed.specs.Course.{Course, on_octets, answer_on_file}
 use Rattle.link_run_feed.specs.Feed.{feed_answer}
@@ -22,7 +19,6 @@ use Rattle.link_run_plan.proofs.PlanCases.{PlanCase, is_good, fails, is_none, no
 use Rattle.link_run_replay.specs.Replay.{play, replay}
 use Rattle.link_run_replay.specs.Replayed.{replay_form}
 use Rattle.link_run_replay.specs.WholeText.{ReplaysCapture}
-use Rattle.link_run_replay.proofs.Playable.{play-simple, play-other}
 use Rattle.link_run_replay.proofs.ReplayWhole.{TextIsWhole-holds}
 
 -- statuses that differ
@@ -35,22 +31,18 @@ text_is_not_done why is = cc
 fault_is_not_done : Done ≢ ReadFault
 fault_is_not_done is = cc
 
-unbuilt_is_not_done : Done ≢ Unbuilt
-unbuilt_is_not_done is = cc
-
 module _ (plan capture : List ℕ) (held : Files) (sink sink' : Taken) where
   module _ (octets : List ℕ) (p : Plan) (here : get held plan ≡ Some octets) (is : plan_of octets ≡ Ok p) (good : IsGood p) where
-    by_feed : IsSimple p → (found : Option (List ℕ)) → get held capture ≡ found → (answer : Answer) → answer ≡ answer_on_file (feed_answer (replay_form p)) found
+    by_feed : (found : Option (List ℕ)) → get held capture ≡ found → (answer : Answer) → answer ≡ answer_on_file (feed_answer (replay_form p)) found
         → Done ≡ answer.status → Appends answer.text sink sink' → ReplaysCapture plan capture held sink sink'
-    by_feed simple None there answer same status written = absurd (fault_is_not_done (status ∙ ap (λ (a : Answer). a.status) same))
-    by_feed simple (Some feed) there answer same status written =
-        let whole = TextIsWhole-holds.done p feed good simple (sym (status ∙ ap (λ (a : Answer). a.status) same)) in record {
+    by_feed None there answer same status written = absurd (fault_is_not_done (status ∙ ap (λ (a : Answer). a.status) same))
+    by_feed (Some feed) there answer same status written =
+        let whole = TextIsWhole-holds.done p feed good (sym (status ∙ ap (λ (a : Answer). a.status) same)) in record {
           octets = octets;
           p = p;
           held_plan = here;
           is_plan = is;
           good = good;
-          simple = simple;
           feed = feed;
           h = whole.h;
           records = whole.records;
@@ -59,15 +51,9 @@ module _ (plan capture : List ℕ) (held : Files) (sink sink' : Taken) where
           written = subst (λ t. Appends t sink sink') (ap (λ (a : Answer). a.text) same ∙ whole.printed) written;
         }
 
-    by_simple : (simple : Bool) → is_simple p ≡ simple → (course : Course) → course ≡ play capture p held → Done ≡ course.answer.status → Appends course.answer.text sink sink' → ReplaysCapture plan capture held sink sink'
-    by_simple true simple course same status written =
-        by_feed ((Decides-is_simple p).0 simple) (get held capture) refl course.answer (ap (λ (c : Course). c.answer) (same ∙ play-simple capture p held simple)) status written
-    by_simple false other course same status written =
-        absurd (unbuilt_is_not_done (status ∙ ap (λ (c : Course). c.answer.status) (same ∙ play-other capture p held other)))
-
   replayed : (course : Course) → PlanCase (play capture) held (get held plan) course → Done ≡ course.answer.status → Appends course.answer.text sink sink' → ReplaysCapture plan capture held sink sink'
   replayed course (is_good octets p here is judged runs) status written =
-      by_simple octets p here is ((VerdictIsComputed-holds.good p).0 judged) (is_simple p) refl course runs status written
+      by_feed octets p here is ((VerdictIsComputed-holds.good p).0 judged) (get held capture) refl course.answer (ap (λ (c : Course). c.answer) runs) status written
   replayed course (fails octets p rule item here is judged runs) status written = absurd (no_is_not_done rule item (status ∙ ap (λ (c : Course). c.answer.status) runs))
   replayed course (is_none why runs) status written = absurd (text_is_not_done why (status ∙ ap (λ (c : Course). c.answer.status) runs))
   replayed course (no_file runs) status written = absurd (fault_is_not_done (status ∙ ap (λ (c : Course). c.answer.status) runs))

@@ -1,19 +1,18 @@
 -- What is kept of a run and of the records that arrived in it. This is the project's own.
-use Rattle.std.specs.Prelude.{◌≡◌, ℕ, ◌+◌, ◌<◌, ◌≤◌, min, All, List, [], ◌++◌, length, Ok}
+use Rattle.std.specs.Prelude.{IsTrue, ◌≡◌, ℕ, ◌+◌, ◌<◌, ◌≤◌, min, All, List, [], ◌++◌, length, Ok}
 use Rattle.plan_checker.specs.Rules.{IsGood}
 use Rattle.link_base.specs.Record.{Record}
 use Rattle.link_receiver.specs.Sessions.{SessionView, StandsFor}
-use Rattle.link_receiver.specs.Simple.{IsSimple}
 use Rattle.link_run_capture.specs.Capture.{most_records, record_of}
 use Rattle.link_run_replay.specs.Replayed.{Replayed, last_tick}
 
 -- The session was handed the records at ticks of the run, which are the first ones, and was played as far as below this
--- tick.
+-- tick. It lists what leaves.
 pub record IsPlayedTo (session : SessionView) (tick : ℕ) (s : Replayed) : Type 0 where
   pub plan : session.plan ≡ s.plan
   pub run : session.frames ≡ s.run_ticks
   pub good : IsGood s.plan
-  pub simple : IsSimple s.plan
+  pub listed : IsTrue session.listed
   pub now : session.tick ≡ min tick (last_tick s)
   pub early : List Record
   pub late : List Record

@@ -7,7 +7,7 @@ use Rattle.carrier_plan.specs.declared.plan.Plan.{Plan}
 use Rattle.plan_checker.specs.Packets.{run_packets}
 use Rattle.sample_bits.specs.declared.iq.RawIq.{RawIq}
 use Rattle.link_base.specs.Record.{Record}
-use Rattle.link_receiver.specs.declared.session.Entry.{Entry}
+use Rattle.link_receiver.specs.declared.entry.Entry.{Entry}
 use Rattle.link_receiver.specs.Output.{entries_at}
 use Rattle.link_receiver.specs.Received.{taken}
 use Rattle.link_text.specs.Printed.{lines_below}

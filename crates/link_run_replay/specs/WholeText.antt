@@ -9,7 +9,6 @@ use Rattle.link_base.specs.Record.{Record}
 use Rattle.link_base.specs.Shelf.{Files}
 use Rattle.link_base.specs.Sink.{Taken, Appends}
 use Rattle.link_receiver.specs.Output.{entries_below, all_entries}
-use Rattle.link_receiver.specs.Simple.{IsSimple}
 use Rattle.link_text.specs.Lines.{lines_of}
 use Rattle.link_text.specs.Printed.{ended}
 use Rattle.link_run_feed.specs.declared.status.Status.TheVariants.{Done}
@@ -55,12 +54,12 @@ pub record IsWholeText (p : Plan) (octets text : List ℕ) : Type 0 where
   pub capture : IsCapture octets h records
   pub printed : text ≡ replay_text p h records
 
--- What is printed while the lines of a capture come is what all its records together give, by any plan that is played.
+-- What is printed while the lines of a capture come is what all its records together give, by any plan that meets the rules.
 pub record TextIsWhole : Type 0 where
   -- the text that stands before the line of a bad line, and alone after a read fault
-  pub settles : (p : Plan) (octets : List ℕ) → IsGood p → IsSimple p → (settled (replay_form p) octets ≡ []) ⊎ IsSettledText p octets (settled (replay_form p) octets)
+  pub settles : (p : Plan) (octets : List ℕ) → IsGood p → (settled (replay_form p) octets ≡ []) ⊎ IsSettledText p octets (settled (replay_form p) octets)
   -- the text of an answer that is done
-  pub done : (p : Plan) (octets : List ℕ) → IsGood p → IsSimple p → (feed_answer (replay_form p) octets).status ≡ Done → IsWholeText p octets (feed_answer (replay_form p) octets).text
+  pub done : (p : Plan) (octets : List ℕ) → IsGood p → (feed_answer (replay_form p) octets).status ≡ Done → IsWholeText p octets (feed_answer (replay_form p) octets).text
 
 -- The plan holds, and the whole text of the run was written.
 pub record ReplaysCapture (plan capture : List ℕ) (held : Files) (old new : Taken) : Type 0 where
@@ -69,7 +68,6 @@ pub record ReplaysCapture (plan capture : List ℕ) (held : Files) (old new : Ta
   pub held_plan : get held plan ≡ Some octets
   pub is_plan : plan_of octets ≡ Ok p
   pub good : IsGood p
-  pub simple : IsSimple p
   pub feed : List ℕ
   pub h : ℕ
   pub records : List Record

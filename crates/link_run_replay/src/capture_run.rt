@@ -2,15 +2,13 @@
 ghost use Rattle.std.specs.Prelude.{◌≡◌, ◌+◌, ◌<◌, ◌≤◌, ◌^◌, [], length, take, Err, IfOk, IfErr};
 ghost use Rattle.link_base.specs.Faults.{HasCause};
 ghost use Rattle.plan_checker.specs.Run.{ticks_of_run};
-ghost use Rattle.plan_checker.specs.WordSize.{word_size};
-ghost use Rattle.link_receiver.specs.Simple.{IsSimple};
 ghost use Rattle.link_run_capture.specs.Capture.{record_of, most_records, capture_length};
 ghost use Rattle.link_run_replay.specs.Replayed.{Replayed, begun, begun_if, replay_by, replay_lines, with_record};
 ghost use Rattle.link_run_replay.specs.CaptureRun.{IsPlayedTo, KeepsRun, IsNext};
 
 use crate::entry_lines::{LINE, play_to, put_flows};
 use link_base::{Failed, NoMemory, Sink};
-use link_receiver::Session;
+use link_receiver::AnySession;
 use link_run_capture::{Arrival, MOST_OCTETS, capture_length, read_record};
 use link_run_feed::{Feed, Reading, Reason};
 use link_text::TextBuffer;
@@ -22,8 +20,8 @@ const MOST_RECORDS: u32 = 65_536;
 
 /// A run that is played while the records of a capture are read.
 #[derive(Drop)]
-pub struct CaptureRun<const Y: usize> {
-    session: Session<Y>,
+pub struct CaptureRun {
+    session: AnySession,
     /// The ticks in which the run is played.
     ticks: u64,
     /// The flows of the plan.
@@ -38,21 +36,15 @@ pub struct CaptureRun<const Y: usize> {
     ghost of_plan: { flows ≡ length session.plan.flows },
 }
 
-impl<const Y: usize> CaptureRun<Y> {
+impl CaptureRun {
     /// A run of so many ticks of a plan that meets the rules. All memory that it needs is taken here.
-    pub fn begin(
-        alloc: Global,
-        checked: &Checked,
-        run_ticks: u64,
-    ) -> Result<CaptureRun<Y>, NoMemory>
-        requires words { Y ≡ word_size checked.now.option }
-        requires simple { IsSimple checked.now }
+    pub fn begin(alloc: Global, checked: &Checked, run_ticks: u64) -> Result<CaptureRun, NoMemory>
         requires ticks { run_ticks ≤ 2 ^ 40 }
         ensures begun { IfOk result (λ kept. KeepsRun kept.session kept.tick kept.lines_left (begun checked.now run_ticks)) }
         ensures few { IfOk result (λ kept. kept.lines_left ≡ 65536) }
     {
         Ok(CaptureRun {
-            session: Session::begin(alloc, checked, run_ticks)?,
+            session: AnySession::begin(alloc, checked, run_ticks)?,
             ticks: checked.ticks(run_ticks),
             flows: checked.plan().flows.len(),
             tick: 0,
@@ -99,12 +91,12 @@ impl<const Y: usize> CaptureRun<Y> {
     }
 }
 
-impl<const Y: usize> Feed for CaptureRun<Y> {
+impl Feed for CaptureRun {
     type Given = Checked;
 
     ghost State = { Replayed };
 
-    ghost can_open = { λ p. (Y ≡ word_size p.option) × IsSimple p };
+    ghost can_open = { λ _. Unit {0} };
 
     ghost header = { λ p line. begun_if p (capture_length line) };
 

@@ -1,5 +1,5 @@
 // The samples that leave a session, and its flows, as text.
-ghost use Rattle.std.specs.Prelude.{◌≡◌, ◌+◌, ◌-◌, ◌<◌, ◌≤◌, ◌++◌, ◌∷◌, [], List, length, slice_get, Some, OnOk, OnErr};
+ghost use Rattle.std.specs.Prelude.{◌≡◌, ◌+◌, ◌-◌, ◌<◌, ◌≤◌, ◌++◌, ◌∷◌, [], List, length, slice_get, Some, IsTrue, OnOk, OnErr};
 ghost use Rattle.link_base.specs.Faults.{HasCause};
 ghost use Rattle.plan_checker.specs.Run.{ticks_of_run};
 ghost use Rattle.link_receiver.specs.Output.{entries_at};
@@ -9,7 +9,7 @@ ghost use Rattle.link_text.specs.Gathered.{Gathers, BreaksOff, text_capacity};
 ghost use Rattle.link_run_replay.specs.EntryLines.{value_text, entry_line, entry_lines, entries_between, flow_line, flow_lines};
 
 use link_base::{Failed, Sink};
-use link_receiver::{Counts, Entry, Session};
+use link_receiver::{AnySession, Counts, Entry};
 use link_text::TextBuffer;
 use sample_bits::RawIq;
 
@@ -79,14 +79,15 @@ fn put_entries<K: Sink>(entries: &[Entry], text: &mut TextBuffer, out: &mut K) -
 }
 
 // Plays the present tick, and appends the lines of its samples.
-fn play_tick<const Y: usize, K: Sink>(
-    session: &mut Session<Y>,
+fn play_tick<K: Sink>(
+    session: &mut AnySession,
     text: &mut TextBuffer,
     out: &mut K,
 ) -> Result<(), Failed>
     requires { session.old.tick < ticks_of_run session.old.plan session.old.frames }
     ensures plan { session.new.plan ≡ session.old.plan }
     ensures frames { session.new.frames ≡ session.old.frames }
+    ensures listed { IsTrue session.new.listed }
     ensures tick { session.new.tick ≡ session.old.tick + 1 }
     ensures stands { (records : List Record) → StandsFor session.old records → StandsFor session.new records }
     ensures cause { HasCause (K.taken out.old).faults (K.taken out.new).faults result }
@@ -100,8 +101,8 @@ fn play_tick<const Y: usize, K: Sink>(
 }
 
 /// Plays the ticks before tick `end`, and appends the lines of their samples.
-pub fn play_to<const Y: usize, K: Sink>(
-    session: &mut Session<Y>,
+pub fn play_to<K: Sink>(
+    session: &mut AnySession,
     end: u64,
     text: &mut TextBuffer,
     out: &mut K,
@@ -109,6 +110,7 @@ pub fn play_to<const Y: usize, K: Sink>(
     requires { end ≤ ticks_of_run session.old.plan session.old.frames }
     ensures plan { session.new.plan ≡ session.old.plan }
     ensures frames { session.new.frames ≡ session.old.frames }
+    ensures listed { IsTrue session.old.listed → IsTrue session.new.listed }
     ensures tick { OnOk result (session.old.tick ≤ end → session.new.tick ≡ end) }
     ensures stands { (records : List Record) → StandsFor session.old records → StandsFor session.new records }
     ensures cause { HasCause (K.taken out.old).faults (K.taken out.new).faults result }
@@ -127,8 +129,8 @@ pub fn play_to<const Y: usize, K: Sink>(
 }
 
 /// Appends the lines of the flows of the plan, which has so many.
-pub fn put_flows<const Y: usize, K: Sink>(
-    session: &Session<Y>,
+pub fn put_flows<K: Sink>(
+    session: &AnySession,
     flows: usize,
     text: &mut TextBuffer,
     out: &mut K,

@@ -3,7 +3,10 @@ use crate::replay_capture;
 use link_base::{MemShelf, MemSink, NoMemory};
 use link_run_feed::{Reason, Status, code};
 use std::alloc::Global;
+use std::process::Abort;
 use std::test::Fail;
+
+mod plans;
 
 const AMPLE: usize = 4096;
 
@@ -12,8 +15,11 @@ const AMPLE: usize = 4096;
 const PLAN: &str =
     "version = 1\noption = 1\nmode = \"bytes\"\nplayout = 2\n[[carrier]]\nmethod = 1\ns = 1\nk = 1\nm = 8\nstart = 0\nsize = 16\n[[flow]]\nid = 7\ndst = \"020000000001\"\nsrc = \"020000000002\"\ncontrol = true\ncarriers = [0]\nframes = 1\nlmin = 0\nlmax = 2\ncap = 3\np = 4\nq = 4\n";
 
-/// A part of that plan, and what stands there in a plan of two carriers.
-const LAST_KEYS: (&str, &str) = (
+/// A part of the plan, and what stands in its place.
+type Change<'a> = (&'a str, &'a str);
+
+/// A second carrier in the same flow.
+const TWO_CARRIERS: Change<'static> = (
     "[[flow]]\nid = 7\ndst = \"020000000001\"\nsrc = \"020000000002\"\ncontrol = true\ncarriers = [0]",
     "[[carrier]]\nmethod = 1\ns = 1\nk = 1\nm = 8\nstart = 16\nsize = 16\n[[flow]]\nid = 7\ndst = \"020000000001\"\nsrc = \"020000000002\"\ncontrol = true\ncarriers = [0, 1]",
 );
@@ -72,6 +78,15 @@ const ONE_LATE: [Record<'static>; 5] = [
     (4, PACKET_4),
 ];
 
+/// Packet 1 comes at the last tick of its window.
+const ONE_AT_THE_LAST_TICK: [Record<'static>; 5] = [
+    (0, PACKET_0),
+    (2, PACKET_2),
+    (3, PACKET_1),
+    (3, PACKET_3),
+    (4, PACKET_4),
+];
+
 /// Packets by a plan with three sequence numbers.
 const ONE_TAKEN_FOR_ANOTHER: [Record<'static>; 5] = [
     (0, PACKET_0),
@@ -91,38 +106,40 @@ const STRANGERS: [Record<'static>; 3] = [
 const ALL_TAKEN: &str =
     "3 0 0 5 -3\n4 0 1 0 0\n5 0 2 1 0\n6 0 3 0 1\nflow 0 taken 5 missed 0\nend\n";
 
-/// A part of the plan, what stands in its place, the length of the run, its records, and what is printed.
-type Row<'a> = ((&'a str, &'a str), u64, &'a [Record<'a>], &'a str);
+/// What is changed in the plan, the length of the run, its records, and what is printed.
+type Row<'a> = (&'a [Change<'a>], u64, &'a [Record<'a>], &'a str);
 
-const ROWS: [Row<'static>; 7] = [
-    (("", ""), 4, &ALL_IN_ORDER, ALL_TAKEN),
+const ROWS: [Row<'static>; 9] = [
+    (&[], 4, &ALL_IN_ORDER, ALL_TAKEN),
     (
-        ("", ""),
+        &[],
         4,
         &ONE_MISSED,
         "3 0 0 5 -3\n4 0 1 0 0\n5 0 2 -\n6 0 3 0 1\nflow 0 taken 4 missed 1\nend\n",
     ),
-    (("", ""), 4, &IN_DISORDER, ALL_TAKEN),
+    (&[], 4, &IN_DISORDER, ALL_TAKEN),
+    (&[], 4, &ONE_AT_THE_LAST_TICK, ALL_TAKEN),
     (
-        ("", ""),
+        &[],
         4,
         &ONE_LATE,
         "3 0 0 -\n4 0 1 0 0\n5 0 2 1 0\n6 0 3 0 1\nflow 0 taken 4 missed 1\nend\n",
     ),
     (
-        ("p = 4\nq = 4", "p = 3\nq = 1"),
+        &[("p = 4\nq = 4", "p = 3\nq = 1")],
         4,
         &ONE_TAKEN_FOR_ANOTHER,
         "3 0 0 -\n4 0 1 0 0\n5 0 2 1 0\n6 0 3 5 -3\nflow 0 taken 4 missed 1\nend\n",
     ),
     (
-        ("", ""),
+        &[],
         1,
         &STRANGERS,
         "3 0 0 -\nflow 0 taken 0 missed 2\nend\n",
     ),
+    (&[], 0, &[], "flow 0 taken 0 missed 1\nend\n"),
     (
-        LAST_KEYS,
+        &[TWO_CARRIERS],
         4,
         &ALL_IN_ORDER,
         "3 0 0 5 -3\n3 1 0 0 0\n4 0 1 0 0\n4 1 1 0 0\n5 0 2 1 0\n5 1 2 0 0\n6 0 3 0 1\n6 1 3 0 0\nflow 0 taken 5 missed 0\nend\n",
@@ -149,13 +166,7 @@ const BAD: [(&str, u64, Reason, &str); 5] = [
 ];
 
 /// A part of the plan, what stands in its place, what is printed, and the number that the program ends with.
-const REFUSED: [(&str, &str, &str, u8); 3] = [
-    (
-        "frames = 1\nlmin = 0\nlmax = 2\ncap = 3",
-        "frames = 2\nlmin = 0\nlmax = 1\ncap = 3",
-        "unbuilt\n",
-        8,
-    ),
+const REFUSED: [(&str, &str, &str, u8); 2] = [
     ("cap = 3", "cap = 2", "no 14 0\n", 1),
     ("lmin = 0\n", "", "plan missing flow 0 lmin\n", 3),
 ];
@@ -183,14 +194,30 @@ fn capture_of(alloc: Global, ticks: u64, records: &[Record<'_>]) -> Result<Strin
     Ok(file)
 }
 
+/// The plan with these changes.
+fn changed(alloc: Global, changes: &[Change<'_>]) -> Result<String, NoMemory> {
+    let mut plan = String::from_str(alloc, PLAN)?;
+    for (old, new) in changes {
+        plan = plan.replacen(alloc, *old, *new, 1)?;
+    }
+    Ok(plan)
+}
+
+// Plays the capture of a row, and compares what is printed.
+fn play_row(rt: &impl Abort, alloc: Global, row: &Row<'_>) -> Result<(), Fail> {
+    let (changes, ticks, records, text) = *row;
+    let plan = changed(alloc, changes)?;
+    let capture = capture_of(alloc, ticks, records)?;
+    let (status, printed) = play(alloc, plan.as_str(), Some(capture.as_str()))?;
+    assert_eq!(rt; printed.as_slice(), text.as_bytes(), "{capture}");
+    assert_eq!(rt; status, Status::Done, "{capture}");
+    Ok(())
+}
+
 #[test]
 fn a_packet_counts_where_a_record_comes_in_its_window(rt: HostRuntime) -> Result<(), Fail> {
-    for ((old, new), ticks, records, text) in ROWS {
-        let plan = PLAN.replacen(rt.alloc(), old, new, 1)?;
-        let capture = capture_of(rt.alloc(), ticks, records)?;
-        let (status, printed) = play(rt.alloc(), plan.as_str(), Some(capture.as_str()))?;
-        assert_eq!(rt; printed.as_slice(), text.as_bytes(), "{capture}");
-        assert_eq!(rt; status, Status::Done, "{capture}");
+    for row in &ROWS {
+        play_row(&rt, rt.alloc(), row)?;
     }
     Ok(())
 }

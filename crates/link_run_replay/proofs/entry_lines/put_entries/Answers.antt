@@ -1,6 +1,6 @@
 use Rattle.std.proofs.Common.{◌∙◌, List, take, drop, subst}
 use Rattle.std.proofs.lemmas.List.{take-append-drop}
-use Rattle.link_receiver.specs.declared.session.Entry.{Entry}
+use Rattle.link_receiver.specs.declared.entry.Entry.{Entry}
 use Rattle.link_text.specs.Gathered.{BreaksOff}
 use Rattle.link_run_replay.specs.EntryLines.{entry_line, entry_lines}
 use Rattle.link_text.proofs.GatheredLines.{gathers_item, breaks_line}

@@ -4,7 +4,7 @@ use Rattle.link_run_replay.proofs.replay.replay_capture.Goals as goal
 
 pub returns-in-Ok-clause-promises : goal.returns-in-Ok-clause-promises
 returns-in-Ok-clause-promises g c =
-    c.in-Ok.ensures.goes_on.promises true (play c.args.capture.now) (g.H.Shelf.shown c.play.new.shelf) (g.K.Sink.taken c.play.new.out) c.play.result c.play.ensures.promises
+    c.in-Ok.ensures.goes_on.promises true (play c.args.capture.now) (g.H.Shelf.shown c.read_feed.new.shelf) (g.K.Sink.taken c.read_feed.new.out) c.read_feed.result c.read_feed.ensures.promises
 
 pub returns-in-Err-clause-promises : goal.returns-in-Err-clause-promises
 returns-in-Err-clause-promises g c = c.in-Err.ensures.ends true (play c.args.capture.now)

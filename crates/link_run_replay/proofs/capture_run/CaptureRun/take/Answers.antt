@@ -7,7 +7,7 @@ use Rattle.link_run_replay.proofs.capture_run.CaptureRun.take.Goals as goal
 use Rattle.link_run_replay.proofs.capture_run.CaptureRun.take.Goals.{then-arrival-self, else-arrival-self}
 
 pub returns-clause-stands : goal.returns-clause-stands
-returns-clause-stands g c = λ s played ordered few.
+returns-clause-stands c = λ s played ordered few.
     let session = c.args.self.now.session in
     let left = c.args.self.now.lines_left in
     let is : c.args.self.now.ticks ≡ ticks_of_run session.plan session.frames = c.args.self.now.of_run in
@@ -18,6 +18,6 @@ returns-clause-stands g c = λ s played ordered few.
       | then-arrival-self w ↦
           let arrived = w.arrive.ensures in
           rw w.self-is
-          (taken_early session w.arrive.new.self s r left (left - 1) played ordered (omega (arith, w.if-arrival-self.true, last)) arrived.plan arrived.frames arrived.tick arrived.stands less few)
+          (taken_early session w.arrive.new.self s r left (left - 1) played ordered (omega (arith, w.if-arrival-self.true, last)) arrived.plan arrived.frames arrived.tick arrived.listed arrived.stands less few)
       | else-arrival-self w ↦ rw w.self-is (taken_late session s r left (left - 1) played (omega (arith, w.if-arrival-self.false, last)) less few)
     ]

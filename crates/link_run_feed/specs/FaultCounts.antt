@@ -5,7 +5,7 @@ use Rattle.link_run_feed.specs.declared.status.Status.{Status}
 use Rattle.link_run_feed.specs.declared.status.Status.TheVariants.{ReadFault, WriteFault}
 
 -- A count of failures: it never falls, rose where this failure is answered, and else stays.
-pub record Counts (failed : Type 0) (before now : ℕ) : Type 0 where
+pub record FaultCounts (failed : Type 0) (before now : ℕ) : Type 0 where
   pub never_falls : before ≤ now
   pub rose : failed → Rose before now
   pub stays : ¬ failed → now ≡ before
