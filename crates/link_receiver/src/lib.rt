@@ -11,6 +11,8 @@ mod listing;
 mod parts;
 mod playing;
 mod session;
+#[cfg(test)]
+mod tests;
 mod word_sizes;
 
 pub use arrive::{Arrive, Foreign};

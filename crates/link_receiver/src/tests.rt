@@ -1,0 +1,346 @@
+//! Captures of one flow, played, and what is answered to each kind of octets.
+ghost use Rattle.std.specs.Prelude.{◌≡◌, ◌<◌, ◌≤◌, ◌^◌, IfOk, length};
+
+use crate::{AnySession, Arrive, Counts, Entry, Foreign};
+use carrier_plan::{
+    Carrier, CarrierList, Flow, FlowList, Method, Mode, NumberList, Piece, PieceList, Plan,
+};
+use link_base::NoMemory;
+use plan_checker::{Checked, check};
+use roe_header::NotRoe;
+use sample_bits::RawIq;
+use std::alloc::Global;
+use std::process::Abort;
+use std::test::Fail;
+
+/// The octets of a packet of flow 7 before the ordering information. It says 16 octets of payload.
+const FRONT: [u8; 18] = [
+    0x02, 0, 0, 0, 0, 0x01, 0x02, 0, 0, 0, 0, 0x02, 0xFC, 0x3D, 0x02, 0x07, 0x00, 0x10,
+];
+
+type Octets = [u8; 60];
+
+// The tick at which a packet arrives, its sequence number, the first octets of its payload, and what is answered to it.
+type Arrival = (u64, u32, [u8; 8], Arrive);
+
+// The tick at which a sample leaves, its number, and I and Q, or none where it is marked.
+type Sample = (u64, u64, Option<(i32, i32)>);
+
+// A packet of the flow, by its sequence number and the first octets of its payload. The others are 0.
+fn packet_of(seq: u32, first: [u8; 8]) -> Octets {
+    let mut octets = [0; 60];
+    octets[..18].copy_from_slice(&FRONT);
+    octets[18..22].copy_from_slice(&seq.to_be_bytes());
+    octets[22..30].copy_from_slice(&first);
+    octets
+}
+
+// A plan on option 1 in mode `bytes`, which plays each frame two ticks after it: one carrier of one piece, and flow 7, whose
+// packets hold one frame, count 0 to 3 in both fields, and arrive 0 to 2 ticks after it.
+fn plan_of(
+    alloc: Global,
+    method: Method,
+    [s, k, m]: [u32; 3],
+    size: u32,
+) -> Result<Plan, NoMemory> {
+    let mut pieces = PieceList::new(alloc);
+    pieces.push(Piece { start: 0, size })?;
+    let mut carriers = CarrierList::new(alloc);
+    carriers.push(Carrier {
+        method,
+        s,
+        k,
+        m,
+        pieces,
+    })?;
+    let mut places = NumberList::new(alloc);
+    places.push(0)?;
+    let mut flows = FlowList::new(alloc);
+    flows.push(Flow {
+        id: 7,
+        dst: [2, 0, 0, 0, 0, 1],
+        src: [2, 0, 0, 0, 0, 2],
+        control: true,
+        carriers: places,
+        frames: 1,
+        lmin: 0,
+        lmax: 2,
+        cap: 3,
+        p: 4,
+        q: 4,
+    })?;
+    Ok(Plan {
+        option: 1,
+        mode: Mode::Bytes,
+        playout: 2,
+        carriers,
+        flows,
+    })
+}
+
+// A plan that meets the rules.
+fn checked(rt: &impl Abort, plan: Plan) -> Checked
+    ensures { 0 < length result.flows }
+{
+    let checked = check(plan).expect(rt, "a plan that meets the rules");
+    assert!(rt; checked.plan().flows.len() > 0);
+    checked
+}
+
+// One carrier with a sample of 8 bits in each frame, by method 1.
+fn one_sample_a_frame(rt: &impl Abort, alloc: Global) -> Result<Checked, NoMemory>
+    ensures { IfOk result (λ plan. 0 < length plan.flows) }
+{
+    Ok(checked(rt, plan_of(alloc, Method::Sample, [1, 1, 8], 16)?))
+}
+
+// What arrives at the present tick of a capture is answered as it says.
+fn arrive_all(rt: &impl Abort, session: &mut AnySession, capture: &[Arrival])
+    ensures plan { session.new.plan ≡ session.old.plan }
+    ensures frames { session.new.frames ≡ session.old.frames }
+    ensures tick { session.new.tick ≡ session.old.tick }
+{
+    for &(tick, seq, first, answer) in capture {
+        if tick == session.now() {
+            assert_eq!(rt; session.arrive(&packet_of(seq, first)), answer);
+        }
+    }
+}
+
+// The entries of a run, in which packets arrive at their ticks, and its counts.
+fn played(
+    rt: &impl Abort,
+    alloc: Global,
+    checked: &Checked,
+    frames: u64,
+    capture: &[Arrival],
+) -> Result<(Vec<Entry>, Counts), NoMemory>
+    requires flows { 0 < length checked.now.flows }
+    requires frames { frames ≤ 2 ^ 40 }
+{
+    let mut session = AnySession::begin(alloc, checked, frames)?;
+    let mut entries = Vec::new(alloc);
+    for _ in 0..checked.ticks(frames) {
+        arrive_all(rt, &mut session, capture);
+        session.tick();
+        entries.extend_from_slice(session.entries())?;
+    }
+    Ok((entries, session.counts(0)))
+}
+
+// The entries of carrier 0 are these.
+fn check_entries(rt: &impl Abort, entries: &[Entry], samples: &[Sample]) {
+    assert_eq!(rt; entries.len(), samples.len());
+    for (entry, &(tick, number, value)) in entries.iter().zip(samples) {
+        let value = value.map(|(i, q)| RawIq { i, q });
+        assert_eq!(rt;
+            *entry,
+            Entry {
+                tick,
+                carrier: 0,
+                number,
+                value
+            }
+        );
+    }
+}
+
+// What packets 0 to 4 have of the samples (5, -3), (0, 0), (1, 0), (0, 1).
+const NO_SAMPLE: [u8; 8] = [0xBC, 0, 0, 0, 0, 0, 0, 0];
+
+const FIRST: [u8; 8] = [0, 0xB3, 0xAA, 0, 0, 0, 0, 0];
+
+const SECOND: [u8; 8] = [0x01, 0, 0, 0, 0, 0, 0, 0];
+
+const THIRD: [u8; 8] = [0, 0x01, 0, 0, 0, 0, 0, 0];
+
+const FOURTH: [u8; 8] = [0, 0x02, 0, 0, 0, 0, 0, 0];
+
+const IN_ORDER: [Arrival; 5] = [
+    (0, 0, NO_SAMPLE, Arrive::Taken { flow: 0, number: 0 }),
+    (1, 1, FIRST, Arrive::Taken { flow: 0, number: 1 }),
+    (2, 2, SECOND, Arrive::Taken { flow: 0, number: 2 }),
+    (3, 3, THIRD, Arrive::Taken { flow: 0, number: 3 }),
+    (4, 0x1_0000, FOURTH, Arrive::Taken { flow: 0, number: 4 }),
+];
+
+const ONE_LOST: [Arrival; 4] = [
+    (0, 0, NO_SAMPLE, Arrive::Taken { flow: 0, number: 0 }),
+    (1, 1, FIRST, Arrive::Taken { flow: 0, number: 1 }),
+    (2, 2, SECOND, Arrive::Taken { flow: 0, number: 2 }),
+    (4, 0x1_0000, FOURTH, Arrive::Taken { flow: 0, number: 4 }),
+];
+
+// Each packet again with the samples of another, and in the order 2, 1, 0, 4, 3.
+const TWICE_AND_BACKWARDS: [Arrival; 10] = [
+    (2, 2, SECOND, Arrive::Taken { flow: 0, number: 2 }),
+    (2, 2, FIRST, Arrive::Repeat { flow: 0, number: 2 }),
+    (2, 1, FIRST, Arrive::Taken { flow: 0, number: 1 }),
+    (2, 1, THIRD, Arrive::Repeat { flow: 0, number: 1 }),
+    (2, 0, NO_SAMPLE, Arrive::Taken { flow: 0, number: 0 }),
+    (2, 0, FIRST, Arrive::Repeat { flow: 0, number: 0 }),
+    (4, 0x1_0000, FOURTH, Arrive::Taken { flow: 0, number: 4 }),
+    (4, 0x1_0000, FIRST, Arrive::Repeat { flow: 0, number: 4 }),
+    (4, 3, THIRD, Arrive::Taken { flow: 0, number: 3 }),
+    (4, 3, FIRST, Arrive::Repeat { flow: 0, number: 3 }),
+];
+
+// Packet 1 at the last tick at which it may arrive.
+const AT_THE_LAST_TICK: [Arrival; 5] = [
+    (0, 0, NO_SAMPLE, Arrive::Taken { flow: 0, number: 0 }),
+    (2, 2, SECOND, Arrive::Taken { flow: 0, number: 2 }),
+    (3, 1, FIRST, Arrive::Taken { flow: 0, number: 1 }),
+    (3, 3, THIRD, Arrive::Taken { flow: 0, number: 3 }),
+    (4, 0x1_0000, FOURTH, Arrive::Taken { flow: 0, number: 4 }),
+];
+
+const A_TICK_LATER: [Arrival; 5] = [
+    (0, 0, NO_SAMPLE, Arrive::Taken { flow: 0, number: 0 }),
+    (2, 2, SECOND, Arrive::Taken { flow: 0, number: 2 }),
+    (3, 3, THIRD, Arrive::Taken { flow: 0, number: 3 }),
+    (4, 1, FIRST, Arrive::Outside { flow: 0, seq: 1 }),
+    (4, 0x1_0000, FOURTH, Arrive::Taken { flow: 0, number: 4 }),
+];
+
+const ALL: [Sample; 4] = [
+    (3, 0, Some((5, -3))),
+    (4, 1, Some((0, 0))),
+    (5, 2, Some((1, 0))),
+    (6, 3, Some((0, 1))),
+];
+
+const WITHOUT_THIRD: [Sample; 4] = [
+    (3, 0, Some((5, -3))),
+    (4, 1, Some((0, 0))),
+    (5, 2, None),
+    (6, 3, Some((0, 1))),
+];
+
+const WITHOUT_FIRST: [Sample; 4] = [
+    (3, 0, None),
+    (4, 1, Some((0, 0))),
+    (5, 2, Some((1, 0))),
+    (6, 3, Some((0, 1))),
+];
+
+#[test]
+fn samples_leave_three_ticks_after_they_are_handed_in_or_are_marked(
+    rt: HostRuntime,
+) -> Result<(), Fail> {
+    let alloc = rt.alloc();
+    let plan = one_sample_a_frame(&rt, alloc)?;
+    let rows = [
+        (IN_ORDER.as_slice(), &ALL, 5),
+        (ONE_LOST.as_slice(), &WITHOUT_THIRD, 4),
+        (TWICE_AND_BACKWARDS.as_slice(), &ALL, 5),
+        (AT_THE_LAST_TICK.as_slice(), &ALL, 5),
+        (A_TICK_LATER.as_slice(), &WITHOUT_FIRST, 4),
+    ];
+    for (capture, samples, taken) in rows {
+        let (entries, counts) = played(&rt, alloc, &plan, 4, capture)?;
+        check_entries(&rt, entries.as_slice(), samples);
+        assert_eq!(rt; counts, Counts { taken, packets: 5 });
+    }
+    Ok(())
+}
+
+// Blocks of two samples and five frames: the samples of block 0 stand in frames 7 and 9, and leave seven ticks after they are
+// handed in. In 30 bits (1, -1) has each bit of Q and the lowest of I, and (16383, -16384) all bits of I but the highest, and of
+// Q that alone.
+const COMPATIBLE: [Arrival; 2] = [
+    (
+        7,
+        0x1_0003,
+        [0, 0xAB, 0xAA, 0xAA, 0x2A, 0, 0, 0],
+        Arrive::Taken { flow: 0, number: 7 },
+    ),
+    (
+        9,
+        0x2_0001,
+        [0, 0x55, 0x55, 0x55, 0x25, 0, 0, 0],
+        Arrive::Taken { flow: 0, number: 9 },
+    ),
+];
+
+#[test]
+fn samples_of_the_compatible_method_leave_or_are_marked(rt: HostRuntime) -> Result<(), Fail> {
+    let alloc = rt.alloc();
+    let plan = checked(&rt, plan_of(alloc, Method::Compatible, [2, 5, 15], 30)?);
+    let both = [(9, 0, Some((1, -1))), (11, 1, Some((16_383, -16_384)))];
+    let one = [(9, 0, Some((1, -1))), (11, 1, None)];
+    for (packets, samples) in [(2, &both), (1, &one)] {
+        let (entries, _) = played(&rt, alloc, &plan, 5, &COMPATIBLE[..packets])?;
+        check_entries(&rt, entries.as_slice(), samples);
+    }
+    Ok(())
+}
+
+// Packet 0 with two other octets from a place on.
+fn altered(place: usize, octets: [u8; 2]) -> Octets
+    requires { place ≤ 58 }
+{
+    let mut packet = packet_of(0, NO_SAMPLE);
+    packet[place..place + 2].copy_from_slice(&octets);
+    packet
+}
+
+#[test]
+fn the_first_reason_why_octets_are_not_taken(rt: HostRuntime) -> Result<(), Fail> {
+    let plan = one_sample_a_frame(&rt, rt.alloc())?;
+    let mut session = AnySession::begin(rt.alloc(), &plan, 1)?;
+    assert_eq!(rt; session.entries().len(), 0);
+    let ether_type = NotRoe::EtherType { got: 0x0800 };
+    let (said, there) = (39, 38);
+    let length = NotRoe::Length { said, there };
+    let rows = [
+        (
+            altered(12, [0x08, 0x00]),
+            Arrive::Foreign(Foreign::NotRoe(ether_type)),
+        ),
+        (
+            altered(16, [0x00, 0x27]),
+            Arrive::Foreign(Foreign::NotRoe(length)),
+        ),
+        (
+            altered(14, [0x03, 0x08]),
+            Arrive::Foreign(Foreign::Sub { got: 3 }),
+        ),
+        (
+            altered(14, [0x02, 0x08]),
+            Arrive::Foreign(Foreign::Flow { id: 8 }),
+        ),
+        (
+            altered(16, [0x00, 0x11]),
+            Arrive::Size {
+                flow: 0,
+                length: 17,
+            },
+        ),
+        (
+            altered(16, [0x00, 0x00]),
+            Arrive::Size { flow: 0, length: 0 },
+        ),
+        // The packets of the run are 0 and 1, and packet 1 may not come at tick 0.
+        (
+            altered(20, [0x00, 0x01]),
+            Arrive::Outside { flow: 0, seq: 1 },
+        ),
+        (
+            altered(20, [0x00, 0x02]),
+            Arrive::Outside { flow: 0, seq: 2 },
+        ),
+        // Another address, and another octet behind the payload.
+        (
+            altered(4, [0x00, 0x09]),
+            Arrive::Taken { flow: 0, number: 0 },
+        ),
+        (
+            altered(58, [0x00, 0x01]),
+            Arrive::Repeat { flow: 0, number: 0 },
+        ),
+    ];
+    for (octets, answer) in rows {
+        assert_eq!(rt; session.arrive(&octets), answer);
+    }
+    Ok(())
+}
