@@ -14,17 +14,6 @@ pub struct Entry {
     pub value: Option<RawIq>,
 }
 
-/// The samples of a carrier that leave at one tick, one after another.
-#[derive(Clone, Copy, Debug, PartialEq, Eq)]
-pub struct Run<'a> {
-    /// The number of the first among the samples of the carrier.
-    pub number: u64,
-    /// The samples, 32 at most. What stands in the place of one that is marked is open.
-    pub samples: &'a [RawIq],
-    /// Bit i is 1 where sample i of these is marked: a bit of it stands in a frame that was missed.
-    pub marks: u32,
-}
-
 /// How the packets of a flow fared. Those that were not received are missed.
 #[derive(Clone, Copy, Debug, PartialEq, Eq)]
 pub struct Counts {

@@ -16,7 +16,7 @@ mod tests;
 mod word_sizes;
 
 pub use arrive::{Arrive, Foreign};
-pub use entry::{Counts, Entry, Run};
+pub use entry::{Counts, Entry};
 pub use laws::{candidates_are_unique, entries_are_settled, taken_is_settled};
 pub use session::Session;
 pub use word_sizes::AnySession;

@@ -128,9 +128,8 @@ impl<const Y: usize> Session<Y> {
         }
     }
 
-    /// Plays the present tick, and goes to the next. What arrives at a tick has to be handed in before. The samples that leave
-    /// are lent by `run`; their entries are not listed.
-    pub fn play(&mut self)
+    // Plays the present tick, and goes to the next. The entries of the samples that leave are not listed.
+    fn play(&mut self)
         requires { self.old.tick < ticks_of_run self.old.plan self.old.frames }
         ensures plan { self.new.plan ≡ self.old.plan }
         ensures frames { self.new.frames ≡ self.old.frames }
@@ -153,7 +152,8 @@ impl<const Y: usize> Session<Y> {
         self.listed = false;
     }
 
-    /// Plays the present tick as `play` does, and lists the entries of the samples that leave.
+    /// Plays the present tick, goes to the next, and lists the entries of the samples that leave. What arrives at a tick has to be
+    /// handed in before.
     pub fn tick(&mut self)
         requires { self.old.tick < ticks_of_run self.old.plan self.old.frames }
         ensures plan { self.new.plan ≡ self.old.plan }
@@ -183,8 +183,7 @@ impl<const Y: usize> Session<Y> {
         self.listed = true;
     }
 
-    /// The entries of the tick that was played last, by carrier, then number, where `tick` played it. Before the first tick there
-    /// are none.
+    /// The entries of the tick that was played last, by carrier, then number. Before the first tick there are none.
     pub fn entries(&self) -> &[Entry]
         ensures { (records : List Record) → StandsFor self.now records → IsTrue self.now.listed
             → result.now ≡ entries_before self.now.plan self.now.frames records self.now.tick }

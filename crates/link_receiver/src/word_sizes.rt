@@ -111,7 +111,7 @@ impl AnySession {
         at_each_size!(One Two Four Five Eight Ten Sixteen)
     }
 
-    /// The entries of the tick that was played last, by carrier, then number, where `tick` played it.
+    /// The entries of the tick that was played last, by carrier, then number.
     pub fn entries(&self) -> &[Entry]
         ensures { (records : List Record) → StandsFor self.now records → IsTrue self.now.listed
             → result.now ≡ entries_before self.now.plan self.now.frames records self.now.tick }
