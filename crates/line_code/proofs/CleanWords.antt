@@ -1,193 +1,160 @@
--- Four symbols at once: the carries of a sum are the disparities before each.
-use Rattle.std.proofs.Common.{◌≡◌, ℕ, zero, suc, ◌+◌, ◌-◌, ◌*◌, ◌/◌, ◌%◌, ◌<◌, ◌≤◌, min, bit_and, bit_xor, [], ◌∷◌, refl, sym, ◌∙◌, ap, arith}
+-- Symbols at once: the carries of a sum are the disparities before each.
+use Rattle.std.proofs.Common.{◌≡◌, ℕ, suc, ◌+◌, ◌*◌, ◌/◌, ◌%◌, ◌^◌, ◌<◌, ◌≤◌, min, bit_and, bit_xor, List, [], ◌∷◌, ◌++◌, length, refl, sym, ◌∙◌, ap, subst, arith}
+use Rattle.std.proofs.Math.Nat.{pow-succ'}
 use Rattle.std.specs.Int.{bit_at}
-use Rattle.std.proofs.lemmas.Nat.Bits.{bit_at_and, bit_at_xor, bit_at-zero}
+use Rattle.std.proofs.lemmas.Nat.Bits.{bit_at_and, bit_at_xor, bit_at-zero, bit_at-suc, bit_at-lt}
 use Rattle.line_code.specs.declared.characters.Rd.{Rd}
+use Rattle.line_code.specs.declared.characters.Rd.TheVariants.{Minus, Plus}
 use Rattle.line_code.specs.Code.{disparity_by_ones}
 use Rattle.line_code.specs.Decoded.{violations_in, disparity_along}
-use Rattle.line_code.specs.Tables.{rd_number, HasMarks}
-use Rattle.line_code.proofs.MarkTable.{after_symbol, clean_symbol, same_rd}
-use Rattle.line_code.specs.Clean.{FourMarks, IsClean, carried}
+use Rattle.line_code.specs.Packed.{four_symbols}
+use Rattle.line_code.specs.Tables.{rd_number, HaveMarks, AreMarkedBy}
+use Rattle.line_code.proofs.MarkTable.{after_symbol, clean_symbol, same_marks, same_rd}
+use Rattle.line_code.specs.Clean.{IsClean}
 
--- ---- the bits of four marks
+-- ---- marks of symbols one after another
 
-nibble : ℕ → ℕ → ℕ → ℕ → ℕ
-nibble a b c d = a + 2 * b + 4 * c + 8 * d
+-- the numbers below which each kind of mark of these symbols stays
+two_to : List ℕ → ℕ
+two_to [] = 1
+two_to (bits ∷ symbols) = 2 * two_to symbols
 
-record IsNibble (a b c d n : ℕ) : Type 0 where
-  first : bit_at n 0 ≡ a
-  second : bit_at n 1 ≡ b
-  third : bit_at n 2 ≡ c
-  fourth : bit_at n 3 ≡ d
-  fifth : bit_at n 4 ≡ 0
+record AreFew (room p n a b : ℕ) : Type 0 where
+  plus : p < room
+  stays : n < room
+  at_minus : a < room
+  at_plus : b < room
 
-bits_of_nibble : (a b c d n : ℕ) → a ≤ 1 → b ≤ 1 → c ≤ 1 → d ≤ 1 → n ≡ a + 2 * b + 4 * c + 8 * d → IsNibble a b c d n
-bits_of_nibble a b c d n ha hb hc hd e = record { first = omega (arith, e); second = omega (arith, e); third = omega (arith, e); fourth = omega (arith, e); fifth = omega (arith, e) }
+have_few : (symbols : List ℕ) (p n a b : ℕ) → HaveMarks symbols p n a b → AreFew (two_to symbols) p n a b
+unfolding two_to
+have_few [] p n a b h = record { plus = omega (arith, h.0); stays = omega (arith, h.1); at_minus = omega (arith, h.2); at_plus = omega (arith, h.3) }
+have_few (bits ∷ symbols) p n a b h =
+    let f = have_few symbols (p / 2) (n / 2) (a / 2) (b / 2) h.1 in
+    record { plus = omega (arith, f.plus); stays = omega (arith, f.stays); at_minus = omega (arith, f.at_minus); at_plus = omega (arith, f.at_plus) }
 
--- ---- the bits of the sum
+same_have : (t : List ℕ) (p n a b p' n' a' b' : ℕ) → HaveMarks t p n a b → p ≡ p' → n ≡ n' → a ≡ a' → b ≡ b' → HaveMarks t p' n' a' b'
+same_have t p n a b p' n' a' b' h ep en ea eb =
+    let h1 : HaveMarks t p' n a b = subst (λ x. HaveMarks t x n a b) ep h in
+    let h2 : HaveMarks t p' n' a b = subst (λ x. HaveMarks t p' x a b) en h1 in
+    let h3 : HaveMarks t p' n' a' b = subst (λ x. HaveMarks t p' n' x b) ea h2 in
+    subst (λ x. HaveMarks t p' n' a' x) eb h3
 
-record IsSum (s d0 d1 d2 d3 sum : ℕ) : Type 0 where
-  first : bit_at sum 0 ≡ d0 % 2
-  second : bit_at sum 1 ≡ d1 % 2
-  third : bit_at sum 2 ≡ d2 % 2
-  fourth : bit_at sum 3 ≡ d3 % 2
-  fifth : bit_at sum 4 ≡ d3 / 2 % 2
+low_bit : (p q P p' : ℕ) → p' ≡ p + 2 * q * P → p' % 2 ≡ p % 2
+low_bit p q P p' e = omega (arith, e)
 
-bits_of_sum : (x0 x1 x2 x3 s sum : ℕ) → sum ≡ x0 + 2 * x1 + 4 * x2 + 8 * x3 + s
-    → let d0 = x0 + s in let d1 = x1 + d0 / 2 in let d2 = x2 + d1 / 2 in let d3 = x3 + d2 / 2 in IsSum s d0 d1 d2 d3 sum
-bits_of_sum x0 x1 x2 x3 s sum e = record { first = omega (arith, e); second = omega (arith, e); third = omega (arith, e); fourth = omega (arith, e); fifth = omega (arith, e) }
+high_bits : (p q P p' : ℕ) → p' ≡ p + 2 * q * P → p' / 2 ≡ p / 2 + q * P
+high_bits p q P p' e = omega (arith, e)
 
--- the disparity before a symbol
-before_bit : (sum stays before i d n c : ℕ) → before ≡ bit_xor sum stays → bit_at sum i ≡ d % 2 → bit_at stays i ≡ n → (d + n) % 2 ≡ c % 2 → bit_at before i ≡ c % 2
-before_bit sum stays before i d n c is s y e =
-    ap (λ b. bit_at b i) is ∙ bit_at_xor sum stays i ∙ ap (λ b. (b + bit_at stays i) % 2) s ∙ ap (λ b. (d % 2 + b) % 2) y ∙ (let joined : (d % 2 + n) % 2 ≡ c % 2 = omega (arith, e) in joined)
-
-none_at_minus : (A x a c i : ℕ) → bit_and A (15 - x) ≡ 0 → bit_at A i ≡ a → bit_at (15 - x) i ≡ 1 - c → c ≡ 0 → a ≡ 0
-none_at_minus A x a c i none ai xi e =
-    let m : min a (1 - c) ≡ 0 =
-    ap (λ u. min u (1 - c)) (sym ai) ∙ ap (λ u. min (bit_at A i) u) (sym xi) ∙ sym (bit_at_and A (15 - x) i) ∙ ap (λ n. bit_at n i) none ∙ bit_at-zero i in
-    omega (arith, m, e)
-
-none_at_plus : (B x b c i : ℕ) → bit_and B x ≡ 0 → bit_at B i ≡ b → bit_at x i ≡ c → c ≡ 1 → b ≡ 0
-none_at_plus B x b c i none bi xi e =
-    let m : min b c ≡ 0 =
-    ap (λ u. min u c) (sym bi) ∙ ap (λ u. min (bit_at B i) u) (sym xi) ∙ sym (bit_at_and B x i) ∙ ap (λ n. bit_at n i) none ∙ bit_at-zero i in
-    omega (arith, m, e)
-
--- the four disparities, and the fifth, as the bits of a number
-record Carries (c0 c1 c2 c3 c4 before : ℕ) : Type 0 where
-  first : bit_at before 0 ≡ c0
-  second : bit_at before 1 ≡ c1
-  third : bit_at before 2 ≡ c2
-  fourth : bit_at before 3 ≡ c3
-  fifth : bit_at before 4 ≡ c4
-
-low_bits : (c0 c1 c2 c3 c4 before : ℕ) → Carries c0 c1 c2 c3 c4 before → IsNibble c0 c1 c2 c3 (before % 16)
-low_bits c0 c1 c2 c3 c4 before h = record {
-  first = omega (arith, h.first);
-  second = omega (arith, h.second);
-  third = omega (arith, h.third);
-  fourth = omega (arith, h.fourth);
-  fifth = omega arith;
-}
-
-high_bits : (c0 c1 c2 c3 x : ℕ) → x < 16 → IsNibble c0 c1 c2 c3 x → IsNibble (1 - c0) (1 - c1) (1 - c2) (1 - c3) (15 - x)
-high_bits c0 c1 c2 c3 x h n = record {
-  first = omega (arith, n.first);
-  second = omega (arith, n.second);
-  third = omega (arith, n.third);
-  fourth = omega (arith, n.fourth);
-  fifth = omega arith;
-}
-
-one_bit : (c : ℕ) → c ≤ 1 → c % 2 ≡ c
-one_bit c h = omega arith
-
-twice : (x p n c : ℕ) → (2 * p + n + c + n) % 2 ≡ c % 2
-twice x p n c = omega arith
-
-four_cases : (P : ℕ → Type 0) → P 0 → P 1 → P 2 → P 3 → (i : ℕ) → i ≤ 3 → P i
-four_cases P p0 p1 p2 p3 zero h = p0
-four_cases P p0 p1 p2 p3 (suc zero) h = p1
-four_cases P p0 p1 p2 p3 (suc (suc zero)) h = p2
-four_cases P p0 p1 p2 p3 (suc (suc (suc zero))) h = p3
-four_cases P p0 p1 p2 p3 (suc (suc (suc (suc i)))) h = absurd (omega arith)
-
-pub clean_is : (start marks before next : ℕ) → start ≤ 1 → before ≡ bit_xor (2 * (marks % 16) + marks / 16 % 16 + start) (marks / 16 % 16)
-    → bit_and (marks / 256 % 16) (15 - before % 16) ≡ 0 → bit_and (marks / 4096) (before % 16) ≡ 0 → before / 16 % 2 ≡ next → IsClean start marks next
-clean_is start marks before next few is minus plus e p n a b h =
-    let stays = marks / 16 % 16 in
-    let sum = 2 * (marks % 16) + stays + start in
-    let p0 = p 0 in let p1 = p 1 in let p2 = p 2 in let p3 = p 3 in
-    let n0 = n 0 in let n1 = n 1 in let n2 = n 2 in let n3 = n 3 in
-    let a0 = a 0 in let a1 = a 1 in let a2 = a 2 in let a3 = a 3 in
-    let b0 = b 0 in let b1 = b 1 in let b2 = b 2 in let b3 = b 3 in
-    let h0 : p0 + n0 ≤ 1 = h.either 0 in let h1 : p1 + n1 ≤ 1 = h.either 1 in let h2 : p2 + n2 ≤ 1 = h.either 2 in let h3 : p3 + n3 ≤ 1 = h.either 3 in
-    let f0 : a0 ≤ 1 = h.minus_few 0 in let f1 : a1 ≤ 1 = h.minus_few 1 in let f2 : a2 ≤ 1 = h.minus_few 2 in let f3 : a3 ≤ 1 = h.minus_few 3 in
-    let g0 : b0 ≤ 1 = h.plus_few 0 in let g1 : b1 ≤ 1 = h.plus_few 1 in let g2 : b2 ≤ 1 = h.plus_few 2 in let g3 : b3 ≤ 1 = h.plus_few 3 in
-    let value : marks ≡ p0 + 16 * n0 + 256 * a0 + 4096 * b0 + 2 * (p1 + 16 * n1 + 256 * a1 + 4096 * b1) + 4 * (p2 + 16 * n2 + 256 * a2 + 4096 * b2) + 8 * (p3 + 16 * n3 + 256 * a3 + 4096 * b3) = h.value in
-    let x0 = 2 * p0 + n0 in let x1 = 2 * p1 + n1 in let x2 = 2 * p2 + n2 in let x3 = 2 * p3 + n3 in
-    let d0 = x0 + start in let d1 = x1 + d0 / 2 in let d2 = x2 + d1 / 2 in let d3 = x3 + d2 / 2 in
-    let low : marks % 16 ≡ p0 + 2 * p1 + 4 * p2 + 8 * p3 = omega (arith, value, h0, h1, h2, h3) in
-    let same : stays ≡ n0 + 2 * n1 + 4 * n2 + 8 * n3 = omega (arith, value, h0, h1, h2, h3) in
-    let third : marks / 256 % 16 ≡ a0 + 2 * a1 + 4 * a2 + 8 * a3 = omega (arith, value, h0, h1, h2, h3, f0, f1, f2, f3) in
-    let last : marks / 4096 ≡ b0 + 2 * b1 + 4 * b2 + 8 * b3 = omega (arith, value, h0, h1, h2, h3, f0, f1, f2, f3) in
-    let N = bits_of_nibble n0 n1 n2 n3 stays (omega (arith, h0)) (omega (arith, h1)) (omega (arith, h2)) (omega (arith, h3)) same in
-    let A = bits_of_nibble a0 a1 a2 a3 (marks / 256 % 16) f0 f1 f2 f3 third in
-    let B = bits_of_nibble b0 b1 b2 b3 (marks / 4096) g0 g1 g2 g3 last in
-    let S = bits_of_sum x0 x1 x2 x3 start sum (omega (arith, low, same)) in
-    let c1 : d0 / 2 ≤ 1 = omega (arith, h0, few) in
-    let c2 : d1 / 2 ≤ 1 = omega (arith, h1, c1) in
-    let c3 : d2 / 2 ≤ 1 = omega (arith, h2, c2) in
-    let c4 : d3 / 2 ≤ 1 = omega (arith, h3, c3) in
-    let C : Carries start (d0 / 2) (d1 / 2) (d2 / 2) (d3 / 2) before = record {
-      first = before_bit sum stays before 0 d0 n0 start is S.first N.first (omega arith) ∙ one_bit start few;
-      second = before_bit sum stays before 1 d1 n1 (d0 / 2) is S.second N.second (twice x1 p1 n1 (d0 / 2)) ∙ one_bit (d0 / 2) c1;
-      third = before_bit sum stays before 2 d2 n2 (d1 / 2) is S.third N.third (twice x2 p2 n2 (d1 / 2)) ∙ one_bit (d1 / 2) c2;
-      fourth = before_bit sum stays before 3 d3 n3 (d2 / 2) is S.fourth N.fourth (twice x3 p3 n3 (d2 / 2)) ∙ one_bit (d2 / 2) c3;
-      fifth = before_bit sum stays before 4 (d3 / 2) 0 (d3 / 2) is S.fifth N.fifth (omega arith) ∙ one_bit (d3 / 2) c4;
-    } in
-    let X = low_bits start (d0 / 2) (d1 / 2) (d2 / 2) (d3 / 2) before C in
-    let below : before % 16 < 16 = omega arith in
-    let Y = high_bits start (d0 / 2) (d1 / 2) (d2 / 2) (before % 16) below X in
-    let x = before % 16 in
-    let P : ℕ → Type 0 = λ i. (carried p n start i ≡ 0 → a i ≡ 0) × (carried p n start i ≡ 1 → b i ≡ 0) in (
-      four_cases P
-          (none_at_minus (marks / 256 % 16) x a0 start 0 minus A.first Y.first, none_at_plus (marks / 4096) x b0 start 0 plus B.first X.first)
-          (none_at_minus (marks / 256 % 16) x a1 (d0 / 2) 1 minus A.second Y.second, none_at_plus (marks / 4096) x b1 (d0 / 2) 1 plus B.second X.second)
-          (none_at_minus (marks / 256 % 16) x a2 (d1 / 2) 2 minus A.third Y.third, none_at_plus (marks / 4096) x b2 (d1 / 2) 2 plus B.third X.third)
-          (none_at_minus (marks / 256 % 16) x a3 (d2 / 2) 3 minus A.fourth Y.fourth, none_at_plus (marks / 4096) x b3 (d2 / 2) 3 plus B.fourth X.fourth),
-      sym C.fifth ∙ e,
+have_append : (s t : List ℕ) (p n a b P N A B p' n' a' b' : ℕ) → HaveMarks s p n a b → HaveMarks t P N A B
+    → p' ≡ p + two_to s * P → n' ≡ n + two_to s * N → a' ≡ a + two_to s * A → b' ≡ b + two_to s * B → HaveMarks (s ++ t) p' n' a' b'
+unfolding two_to
+have_append [] t p n a b P N A B p' n' a' b' h k ep en ea eb =
+    same_have t P N A B p' n' a' b' k (omega (arith, ep, h.0)) (omega (arith, en, h.1)) (omega (arith, ea, h.2)) (omega (arith, eb, h.3))
+have_append (bits ∷ s) t p n a b P N A B p' n' a' b' h k ep en ea eb =
+    let q = two_to s in (
+      same_marks bits _ _ _ _ _ _ _ _ h.0 (low_bit p q P p' ep) (low_bit n q N n' en) (low_bit a q A a' ea) (low_bit b q B b' eb),
+      have_append s t (p / 2) (n / 2) (a / 2) (b / 2) P N A B (p' / 2) (n' / 2) (a' / 2) (b' / 2) h.1 k
+          (high_bits p q P p' ep) (high_bits n q N n' en) (high_bits a q A a' ea) (high_bits b q B b' eb),
     )
 
--- ---- four symbols with their marks
+-- marks behind those of one symbol
+pub marked_one : (bits : ℕ) (t : List ℕ) (m rest marks : ℕ) → AreMarkedBy (bits ∷ []) m → AreMarkedBy t rest → marks ≡ m + 2 * rest → AreMarkedBy (bits ∷ t) marks
+unfolding two_to
+marked_one bits t m rest marks h k e = record {
+  plus = h.plus + 2 * k.plus;
+  stays = h.stays + 2 * k.stays;
+  at_minus = h.at_minus + 2 * k.at_minus;
+  at_plus = h.at_plus + 2 * k.at_plus;
+  value = omega (arith, e, h.value, k.value);
+  have = have_append (bits ∷ []) t h.plus h.stays h.at_minus h.at_plus k.plus k.stays k.at_minus k.at_plus _ _ _ _ h.have k.have refl refl refl refl;
+}
 
-pick : ℕ → ℕ → ℕ → ℕ → ℕ → ℕ
-pick a b c d zero = a
-pick a b c d (suc zero) = b
-pick a b c d (suc (suc zero)) = c
-pick a b c d (suc (suc (suc i))) = d
+-- marks behind those of four symbols
+marked_four : (s0 s1 s2 s3 : ℕ) (t : List ℕ) (m rest marks : ℕ) → AreMarkedBy (s0 ∷ s1 ∷ s2 ∷ s3 ∷ []) m → AreMarkedBy t rest → marks ≡ m + 16 * rest
+    → AreMarkedBy ((s0 ∷ s1 ∷ s2 ∷ s3 ∷ []) ++ t) marks
+unfolding two_to
+marked_four s0 s1 s2 s3 t m rest marks h k e = record {
+  plus = h.plus + 16 * k.plus;
+  stays = h.stays + 16 * k.stays;
+  at_minus = h.at_minus + 16 * k.at_minus;
+  at_plus = h.at_plus + 16 * k.at_plus;
+  value = omega (arith, e, h.value, k.value);
+  have = have_append (s0 ∷ s1 ∷ s2 ∷ s3 ∷ []) t h.plus h.stays h.at_minus h.at_plus k.plus k.stays k.at_minus k.at_plus _ _ _ _ h.have k.have refl refl refl refl;
+}
 
-picked : (P : ℕ → ℕ → Type 0) (a b c d a' b' c' d' : ℕ) → P a a' → P b b' → P c c' → P d d' → (i : ℕ) → P (pick a b c d i) (pick a' b' c' d' i)
-unfolding pick
-picked P a b c d a' b' c' d' pa pb pc pd zero = pa
-picked P a b c d a' b' c' d' pa pb pc pd (suc zero) = pb
-picked P a b c d a' b' c' d' pa pb pc pd (suc (suc zero)) = pc
-picked P a b c d a' b' c' d' pa pb pc pd (suc (suc (suc i))) = pd
+pub four_before : (word : ℕ) (t : List ℕ) (m rest marks : ℕ) → AreMarkedBy (four_symbols word) m → AreMarkedBy t rest → marks ≡ m + 16 * rest
+    → AreMarkedBy (four_symbols word ++ t) marks
+four_before word t m rest marks h k e =
+    marked_four (word % 1024) (word / 1024 % 1024) (word / 1048576 % 1024) (word / 1073741824 % 1024) t m rest marks h k e
 
-pub clean_word : (rd next : Rd) (s0 s1 s2 s3 m0 m1 m2 m3 marks : ℕ) → HasMarks s0 m0 → HasMarks s1 m1 → HasMarks s2 m2 → HasMarks s3 m3
-    → marks ≡ (m0 + 2 * m1) + 4 * (m2 + 2 * m3) → IsClean (rd_number rd) marks (rd_number next)
-    → (violations_in rd (s0 ∷ s1 ∷ s2 ∷ s3 ∷ []) ≡ 0) × (next ≡ disparity_along rd (s0 ∷ s1 ∷ s2 ∷ s3 ∷ []))
-unfolding violations_in disparity_along pick
-clean_word rd next s0 s1 s2 s3 m0 m1 m2 m3 marks h0 h1 h2 h3 e clean =
-    let plus = pick h0.plus h1.plus h2.plus h3.plus in
-    let stays = pick h0.stays h1.stays h2.stays h3.stays in
-    let at_minus = pick h0.at_minus h1.at_minus h2.at_minus h3.at_minus in
-    let at_plus = pick h0.at_plus h1.at_plus h2.at_plus h3.at_plus in
-    let sums : ℕ → ℕ → Type 0 = λ p n. p + n ≤ 1 in
-    let one : ℕ → ℕ → Type 0 = λ a b. a ≤ 1 in
-    let four : FourMarks plus stays at_minus at_plus marks = record {
-      value = omega (arith, e, h0.value, h1.value, h2.value, h3.value);
-      either = picked sums h0.plus h1.plus h2.plus h3.plus h0.stays h1.stays h2.stays h3.stays h0.either h1.either h2.either h3.either;
-      minus_few = picked one h0.at_minus h1.at_minus h2.at_minus h3.at_minus 0 0 0 0 h0.minus_few h1.minus_few h2.minus_few h3.minus_few;
-      plus_few = picked one h0.at_plus h1.at_plus h2.at_plus h3.at_plus 0 0 0 0 h0.plus_few h1.plus_few h2.plus_few h3.plus_few;
-    } in
-    let all = clean plus stays at_minus at_plus four in
-    let rd1 = disparity_by_ones rd s0 in
-    let rd2 = disparity_by_ones rd1 s1 in
-    let rd3 = disparity_by_ones rd2 s2 in
-    let rd4 = disparity_by_ones rd3 s3 in
-    let start = rd_number rd in
-    let n1 : rd_number rd1 ≡ carried plus stays start 1 = after_symbol s0 m0 h0 rd in
-    let n2 : rd_number rd2 ≡ carried plus stays start 2 = after_symbol s1 m1 h1 rd1 ∙ ap (λ c. (2 * h1.plus + h1.stays + c) / 2) n1 in
-    let n3 : rd_number rd3 ≡ carried plus stays start 3 = after_symbol s2 m2 h2 rd2 ∙ ap (λ c. (2 * h2.plus + h2.stays + c) / 2) n2 in
-    let n4 : rd_number rd4 ≡ carried plus stays start 4 = after_symbol s3 m3 h3 rd3 ∙ ap (λ c. (2 * h3.plus + h3.stays + c) / 2) n3 in
-    let r0 = all.0 0 (omega arith) in
-    let r1 = all.0 1 (omega arith) in
-    let r2 = all.0 2 (omega arith) in
-    let r3 = all.0 3 (omega arith) in
-    let v0 = clean_symbol s0 m0 h0 rd r0.0 r0.1 in
-    let v1 = clean_symbol s1 m1 h1 rd1 (λ z. r1.0 (sym n1 ∙ z)) (λ z. r1.1 (sym n1 ∙ z)) in
-    let v2 = clean_symbol s2 m2 h2 rd2 (λ z. r2.0 (sym n2 ∙ z)) (λ z. r2.1 (sym n2 ∙ z)) in
-    let v3 = clean_symbol s3 m3 h3 rd3 (λ z. r3.0 (sym n3 ∙ z)) (λ z. r3.1 (sym n3 ∙ z)) in
-    (omega (arith, v0, v1, v2, v3), same_rd next rd4 (sym all.1 ∙ sym n4))
+-- ---- the disparities as carries
+
+carry_few : (rd : Rd) → rd_number rd ≤ 1
+carry_few Minus = omega arith
+carry_few Plus = omega arith
+
+first_carry : (sum p n c : ℕ) → sum ≡ 2 * p + n + c → c ≤ 1 → (bit_at sum 0 + bit_at n 0) % 2 ≡ c
+first_carry sum p n c e few = omega (arith, e, few)
+
+next_carry : (sum p n c d : ℕ) → sum ≡ 2 * p + n + c → d ≡ (2 * (p % 2) + n % 2 + c) / 2 → sum / 2 ≡ 2 * (p / 2) + n / 2 + d
+next_carry sum p n c d e f = omega (arith, e, f)
+
+clean_along : (symbols : List ℕ) (rd : Rd) (p n a b sum : ℕ) → HaveMarks symbols p n a b → sum ≡ 2 * p + n + rd_number rd
+    → ((i : ℕ) → i < length symbols → (bit_at sum i + bit_at n i) % 2 ≡ 0 → bit_at a i ≡ 0)
+    → ((i : ℕ) → i < length symbols → (bit_at sum i + bit_at n i) % 2 ≡ 1 → bit_at b i ≡ 0)
+    → (violations_in rd symbols ≡ 0) × ((bit_at sum (length symbols) + bit_at n (length symbols)) % 2 ≡ rd_number (disparity_along rd symbols))
+unfolding violations_in disparity_along
+clean_along [] rd p n a b sum h e minus plus = (refl, first_carry sum p n (rd_number rd) e (carry_few rd))
+clean_along (bits ∷ symbols) rd p n a b sum h e minus plus =
+    let c = rd_number rd in
+    let first : (bit_at sum 0 + bit_at n 0) % 2 ≡ c = first_carry sum p n c e (carry_few rd) in
+    let clean =
+    clean_symbol bits _ _ _ _ h.0 rd
+    (λ z. let none : bit_at a 0 ≡ 0 = minus 0 (omega arith) (first ∙ z) in omega (arith, none))
+    (λ z. let none : bit_at b 0 ≡ 0 = plus 0 (omega arith) (first ∙ z) in omega (arith, none)) in
+    let rest =
+    clean_along symbols (disparity_by_ones rd bits) (p / 2) (n / 2) (a / 2) (b / 2) (sum / 2) h.1 (next_carry sum p n c _ e (after_symbol bits _ _ _ _ h.0 rd))
+    (λ i lt z. sym (bit_at-suc a i) ∙ minus (suc i) (omega (arith, lt)) (omega (arith, z, bit_at-suc sum i, bit_at-suc n i)))
+    (λ i lt z. sym (bit_at-suc b i) ∙ plus (suc i) (omega (arith, lt)) (omega (arith, z, bit_at-suc sum i, bit_at-suc n i))) in
+    (omega (arith, clean, rest.0), omega (arith, rest.1, bit_at-suc sum (length symbols), bit_at-suc n (length symbols)))
+
+two_to-length : (symbols : List ℕ) → two_to symbols ≡ 2 ^ length symbols
+unfolding two_to
+two_to-length [] = refl
+two_to-length (bits ∷ symbols) = ap (λ n. 2 * n) (two_to-length symbols) ∙ sym (pow-succ' 2 (length symbols))
+
+sixteen_bits : (symbols : List ℕ) → length symbols ≡ 16 → two_to symbols ≡ 65536
+sixteen_bits symbols len = two_to-length symbols ∙ ap (λ n. 2 ^ n) len
+
+pub clean_is : (rd next : Rd) (marks before : ℕ) → before ≡ bit_xor (2 * (marks % 65536) + marks / 65536 % 65536 + rd_number rd) (marks / 65536 % 65536)
+    → bit_and (marks / 4294967296 % 65536) before ≡ marks / 4294967296 % 65536 → bit_and (marks / 281474976710656) before ≡ 0
+    → before / 65536 % 2 ≡ rd_number next → IsClean rd marks next
+clean_is rd next marks before is minus plus e symbols len m =
+    let few = have_few symbols m.plus m.stays m.at_minus m.at_plus m.have in
+    let room : two_to symbols ≡ 65536 = sixteen_bits symbols len in
+    let fp : m.plus < 65536 = omega (arith, few.plus, room) in
+    let fn : m.stays < 65536 = omega (arith, few.stays, room) in
+    let fa : m.at_minus < 65536 = omega (arith, few.at_minus, room) in
+    let p : marks % 65536 ≡ m.plus = omega (arith, m.value, fp) in
+    let n : marks / 65536 % 65536 ≡ m.stays = omega (arith, m.value, fp, fn) in
+    let a : marks / 4294967296 % 65536 ≡ m.at_minus = omega (arith, m.value, fp, fn, fa) in
+    let b : marks / 281474976710656 ≡ m.at_plus = omega (arith, m.value, fp, fn, fa) in
+    let sum = 2 * m.plus + m.stays + rd_number rd in
+    let xored : before ≡ bit_xor sum m.stays =
+    is ∙ ap (λ x. bit_xor (2 * x + marks / 65536 % 65536 + rd_number rd) (marks / 65536 % 65536)) p ∙ ap (λ x. bit_xor (2 * m.plus + x + rd_number rd) x) n in
+    let at : (i : ℕ) → bit_at before i ≡ (bit_at sum i + bit_at m.stays i) % 2 = λ i. ap (λ x. bit_at x i) xored ∙ bit_at_xor sum m.stays i in
+    let minus_kept : bit_and m.at_minus before ≡ m.at_minus = sym (ap (λ x. bit_and x before) a) ∙ minus ∙ a in
+    let plus_none : bit_and m.at_plus before ≡ 0 = sym (ap (λ x. bit_and x before) b) ∙ plus in
+    let at_minus : (i : ℕ) → i < length symbols → (bit_at sum i + bit_at m.stays i) % 2 ≡ 0 → bit_at m.at_minus i ≡ 0 =
+    λ i lt z. none_kept (bit_at m.at_minus i) (bit_at before i) (sym (bit_at_and m.at_minus before i) ∙ ap (λ x. bit_at x i) minus_kept) (at i ∙ z) in
+    let at_plus : (i : ℕ) → i < length symbols → (bit_at sum i + bit_at m.stays i) % 2 ≡ 1 → bit_at m.at_plus i ≡ 0 =
+    λ i lt z. all_none (bit_at m.at_plus i) (bit_at before i) (sym (bit_at_and m.at_plus before i) ∙ ap (λ x. bit_at x i) plus_none ∙ bit_at-zero i) (at i ∙ z) (bit_at-lt m.at_plus i) in
+    let all = clean_along symbols rd m.plus m.stays m.at_minus m.at_plus sum m.have refl at_minus at_plus in
+    let last : bit_at before 16 ≡ rd_number (disparity_along rd symbols) = ap (bit_at before) (sym len) ∙ at (length symbols) ∙ all.1 in
+    (all.0, same_rd next (disparity_along rd symbols) (sym e ∙ last))
+  where
+    none_kept : (x y : ℕ) → min x y ≡ x → y ≡ 0 → x ≡ 0
+    none_kept x y h z = omega (arith, h, z)
+
+    all_none : (x y : ℕ) → min x y ≡ 0 → y ≡ 1 → x < 2 → x ≡ 0
+    all_none x y h z few = omega (arith, h, z, few)

@@ -1,7 +1,7 @@
 -- The table of what symbols spell is held against the published code, by computing: each entry at its
 -- symbol, and each character's symbol at its entry.
 use Rattle.std.proofs.Common.{◌≡◌, ◌↔◌, ℕ, zero, suc, ◌+◌, ◌/◌, ◌%◌, ◌<◌, add-zero, zero-add, refl, sym, ◌∙◌, ap, arith, inl, inr, eq-eqb, cond}
-use Rattle.std.proofs.Common.{Bool, true, false, not, ◌&&◌, ◌||◌, ◌==◌, nat_lt, List, [], ◌∷◌, length, get_or, Option, Some, None}
+use Rattle.std.proofs.Common.{Bool, true, false, not, ◌&&◌, ◌||◌, ◌==◌, nat_lt, List, [], ◌∷◌, length, get_or, Some, None}
 use Rattle.std.specs.Prelude.{if◌then◌else◌}
 use Rattle.std.proofs.lemmas.Bool.{and_parts, eqb-true, eqb-false, ltb-true, ne_eqb, cases_lt}
 use Rattle.std.proofs.lemmas.Option.{some_pair_parts}
@@ -13,7 +13,7 @@ use Rattle.line_code.specs.declared.characters.Rd.TheVariants.{Minus, Plus}
 use Rattle.line_code.specs.declared.tables.TheConstants.{SPELLED}
 use Rattle.line_code.specs.Code.{disparity_after, disparity_by_ones, symbol_of, IsCharacter, Spells, IsCheckOf}
 use Rattle.line_code.specs.Decoded.{octet_by, is_comma_by}
-use Rattle.line_code.specs.Tables.{about, disparity_past, violations_of, is_spelled_at, is_comma_entry, entry_character, entry_decoded}
+use Rattle.line_code.specs.Tables.{disparity_past, violations_of, is_spelled_at, is_comma_entry, entry_character, entry_decoded}
 use Rattle.line_code.proofs.EncodeTable.{holds_of_octets, at_octet, same_disparity, same_disparity-true, spelled_once}
 
 -- whether a character is the comma or an octet

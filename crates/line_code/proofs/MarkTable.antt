@@ -6,14 +6,14 @@ use Rattle.line_code.specs.declared.characters.Rd.TheVariants.{Minus, Plus}
 use Rattle.line_code.specs.declared.tables.TheConstants.{SPELLED, MARKS}
 use Rattle.line_code.specs.Code.{disparity_by_ones}
 use Rattle.line_code.specs.Decoded.{spelled_at, is_violation_by}
-use Rattle.line_code.specs.Tables.{disparity_past, violations_of, rd_number, HasMarks}
+use Rattle.line_code.specs.Tables.{disparity_past, violations_of, rd_number, HasMarks, AreMarkedBy}
 use Rattle.line_code.proofs.DecodeTable.{past_by_ones}
 use Rattle.line_code.proofs.Spelling.{violations_of_entry}
 
 -- whether marks are those of an entry
 is_marked : ℕ → ℕ → Bool
 is_marked entry marks =
-    nat_le (entry % 2) (entry / 2 % 2) && marks == entry % 2 + 16 * (entry / 2 % 2 - entry % 2) + 256 * (entry / 4 % 2) + 4096 * (entry / 8 % 2)
+    nat_le (entry % 2) (entry / 2 % 2) && marks == entry % 2 + 65536 * (entry / 2 % 2 - entry % 2) + 4294967296 * (entry / 4 % 2) + 281474976710656 * (entry / 8 % 2)
 
 are_marked : List ℕ → List ℕ → Bool
 are_marked [] marks = true
@@ -55,20 +55,27 @@ violates_minus : (entry : ℕ) → violations_of Minus entry ≡ entry / 4 % 2
 unfolding violations_of
 violates_minus entry = refl
 
-pub marks_of_symbol : (bits : ℕ) → bits < 1024 → HasMarks bits (get_or MARKS bits 0)
+-- the same marks by other names
+pub same_marks : (bits p n a b p' n' a' b' : ℕ) → HasMarks bits p n a b → p' ≡ p → n' ≡ n → a' ≡ a → b' ≡ b → HasMarks bits p' n' a' b'
+same_marks bits p n a b p' n' a' b' h ep en ea eb = record {
+  either = omega (arith, h.either, ep, en);
+  minus_few = omega (arith, h.minus_few, ea);
+  plus_few = omega (arith, h.plus_few, eb);
+  after_minus = h.after_minus ∙ sym ep;
+  after_plus = omega (arith, h.after_plus, ep, en);
+  violates_minus = h.violates_minus ∙ sym ea;
+  violates_plus = h.violates_plus ∙ sym eb;
+}
+
+pub marks_of_symbol : (bits : ℕ) → bits < 1024 → AreMarkedBy (bits ∷ []) (get_or MARKS bits 0)
 unfolding is_marked
 marks_of_symbol bits small =
     let entry = get_or SPELLED bits 0 in
     let marks = get_or MARKS bits 0 in
     let parts = and_parts (nat_le (entry % 2) (entry / 2 % 2)) _ (marked_at SPELLED MARKS table_is_marked bits small) in
     let grows : entry % 2 ≤ entry / 2 % 2 = leb-true (entry % 2) (entry / 2 % 2) parts.0 in
-    let whole : marks ≡ entry % 2 + 16 * (entry / 2 % 2 - entry % 2) + 256 * (entry / 4 % 2) + 4096 * (entry / 8 % 2) = eqb-true _ _ parts.1 in
-    record {
-      plus = entry % 2;
-      stays = entry / 2 % 2 - entry % 2;
-      at_minus = entry / 4 % 2;
-      at_plus = entry / 8 % 2;
-      value = whole;
+    let whole : marks ≡ entry % 2 + 65536 * (entry / 2 % 2 - entry % 2) + 4294967296 * (entry / 4 % 2) + 281474976710656 * (entry / 8 % 2) = eqb-true _ _ parts.1 in
+    let has : HasMarks bits (entry % 2) (entry / 2 % 2 - entry % 2) (entry / 4 % 2) (entry / 8 % 2) = record {
       either = omega (arith, grows);
       minus_few = omega arith;
       plus_few = omega arith;
@@ -76,21 +83,29 @@ marks_of_symbol bits small =
       after_plus = ap rd_number (sym (past_by_ones Plus bits small)) ∙ after_plus entry ∙ omega (arith, grows);
       violates_minus = sym (violations_of_entry Minus bits small) ∙ violates_minus entry;
       violates_plus = sym (violations_of_entry Plus bits small) ∙ violates_plus entry;
+    } in
+    record {
+      plus = entry % 2;
+      stays = entry / 2 % 2 - entry % 2;
+      at_minus = entry / 4 % 2;
+      at_plus = entry / 8 % 2;
+      value = whole;
+      have = (same_marks bits _ _ _ _ _ _ _ _ has (omega arith) (omega arith) (omega arith) (omega arith), (omega arith, omega arith, omega arith, omega arith));
     }
 
-pub marks_few : (bits marks : ℕ) → HasMarks bits marks → marks ≤ 4369
-marks_few bits marks h = omega (arith, h.value, h.either, h.minus_few, h.plus_few)
+pub marks_few : (bits marks : ℕ) → AreMarkedBy (bits ∷ []) marks → marks ≤ 281479271743489
+marks_few bits marks h = omega (arith, h.value, h.have.0.either, h.have.0.minus_few, h.have.0.plus_few, h.have.1.0, h.have.1.1, h.have.1.2, h.have.1.3)
 
 -- ---- what the marks say of a symbol
 
-pub after_symbol : (bits marks : ℕ) (h : HasMarks bits marks) (rd : Rd) → rd_number (disparity_by_ones rd bits) ≡ (2 * h.plus + h.stays + rd_number rd) / 2
-after_symbol bits marks h Minus = h.after_minus ∙ omega (arith, h.either)
-after_symbol bits marks h Plus = h.after_plus ∙ omega (arith, h.either)
+pub after_symbol : (bits p n a b : ℕ) (h : HasMarks bits p n a b) (rd : Rd) → rd_number (disparity_by_ones rd bits) ≡ (2 * p + n + rd_number rd) / 2
+after_symbol bits p n a b h Minus = h.after_minus ∙ omega (arith, h.either)
+after_symbol bits p n a b h Plus = h.after_plus ∙ omega (arith, h.either)
 
-pub clean_symbol : (bits marks : ℕ) (h : HasMarks bits marks) (rd : Rd) → (rd_number rd ≡ 0 → h.at_minus ≡ 0) → (rd_number rd ≡ 1 → h.at_plus ≡ 0)
+pub clean_symbol : (bits p n a b : ℕ) (h : HasMarks bits p n a b) (rd : Rd) → (rd_number rd ≡ 0 → a ≡ 0) → (rd_number rd ≡ 1 → b ≡ 0)
     → is_violation_by (spelled_at rd bits) ≡ 0
-clean_symbol bits marks h Minus minus plus = h.violates_minus ∙ minus refl
-clean_symbol bits marks h Plus minus plus = h.violates_plus ∙ plus refl
+clean_symbol bits p n a b h Minus minus plus = h.violates_minus ∙ minus refl
+clean_symbol bits p n a b h Plus minus plus = h.violates_plus ∙ plus refl
 
 pub same_rd : (a b : Rd) → rd_number a ≡ rd_number b → a ≡ b
 same_rd Minus Minus e = refl

@@ -4,7 +4,7 @@ use Rattle.std.proofs.lemmas.List.{get_or-drop, get_or-append-add}
 use Rattle.std.proofs.Math.Seq.{drop-drop}
 use Rattle.line_code.specs.declared.characters.Rd.{Rd}
 use Rattle.line_code.specs.Code.{disparity_by_ones}
-use Rattle.line_code.specs.Packed.{word_of, word_at, four_symbols, symbols_in}
+use Rattle.line_code.specs.Packed.{word_at, four_symbols, sixteen_symbols, symbols_in}
 use Rattle.line_code.specs.Decoded.{violations_in, disparity_along}
 
 word_at-drop : (octets : List ℕ) (at : ℕ) → word_at (drop at octets) 0 ≡ word_at octets at
@@ -79,6 +79,59 @@ pub disparity_end : (octets : List ℕ) (at : ℕ) (all rd : Rd) → length octe
     → all ≡ disparity_along rd (symbols_in (drop at octets)) → rd ≡ all
 unfolding disparity_along
 disparity_end octets at all rd h e = sym (e ∙ ap (disparity_along rd) (none_left octets at h))
+
+-- ---- a loop over twenties of octets
+
+four_next : (octets : List ℕ) (at next : ℕ) → next ≡ at + 5 → next ≤ length octets
+    → symbols_in (drop at octets) ≡ four_symbols (word_at octets at) ++ symbols_in (drop next octets)
+four_next octets at next e h = four_more octets at (omega (arith, e, h)) ∙ ap (λ n. four_symbols (word_at octets at) ++ symbols_in (drop n octets)) (sym e)
+
+sixteen_more : (octets : List ℕ) (at : ℕ) → at + 20 ≤ length octets → symbols_in (drop at octets) ≡ sixteen_symbols octets at ++ symbols_in (drop (at + 20) octets)
+sixteen_more octets at h =
+    let f0 = four_symbols (word_at octets at) in
+    let f1 = four_symbols (word_at octets (at + 5)) in
+    let f2 = four_symbols (word_at octets (at + 10)) in
+    four_next octets at (at + 5) refl (omega arith)
+    ∙ ap (λ s. f0 ++ s) (four_next octets (at + 5) (at + 10) (omega arith) (omega arith))
+    ∙ ap (λ s. f0 ++ (f1 ++ s)) (four_next octets (at + 10) (at + 15) (omega arith) (omega arith))
+    ∙ ap (λ s. f0 ++ (f1 ++ (f2 ++ s))) (four_next octets (at + 15) (at + 20) (omega arith) (omega arith))
+
+pub violations_sixteen : (octets : List ℕ) (at count all : ℕ) (rd next : Rd) (count' : ℕ) → at + 20 ≤ length octets
+    → all ≡ count + violations_in rd (symbols_in (drop at octets))
+    → count' ≡ count + violations_in rd (sixteen_symbols octets at) → next ≡ disparity_along rd (sixteen_symbols octets at)
+    → all ≡ count' + violations_in next (symbols_in (drop (at + 20) octets))
+violations_sixteen octets at count all rd next count' h e c n =
+    let sixteen = sixteen_symbols octets at in
+    let rest = symbols_in (drop (at + 20) octets) in
+    let split : violations_in rd (symbols_in (drop at octets)) ≡ violations_in rd sixteen + violations_in next rest =
+    ap (violations_in rd) (sixteen_more octets at h) ∙ violations_in-append rd sixteen rest ∙ ap (λ r. violations_in rd sixteen + violations_in r rest) (sym n) in
+    omega (arith, e, c, split)
+
+pub disparity_sixteen : (octets : List ℕ) (at : ℕ) (all rd next : Rd) → at + 20 ≤ length octets
+    → all ≡ disparity_along rd (symbols_in (drop at octets)) → next ≡ disparity_along rd (sixteen_symbols octets at)
+    → all ≡ disparity_along next (symbols_in (drop (at + 20) octets))
+disparity_sixteen octets at all rd next h e n =
+    e ∙ ap (disparity_along rd) (sixteen_more octets at h) ∙ disparity_along-append rd (sixteen_symbols octets at) (symbols_in (drop (at + 20) octets))
+    ∙ ap (λ r. disparity_along r (symbols_in (drop (at + 20) octets))) (sym n)
+
+-- ---- pieces one after another
+
+pub record Reads (rd next : Rd) (count count' : ℕ) (symbols : List ℕ) : Type 0 where
+  pub violations : count' ≡ count + violations_in rd symbols
+  pub disparity : next ≡ disparity_along rd symbols
+
+pub reads_both : (rd middle next : Rd) (count count' count'' : ℕ) (a b : List ℕ) → Reads rd middle count count' a → Reads middle next count' count'' b → Reads rd next count count'' (a ++ b)
+reads_both rd middle next count count' count'' a b h k = record {
+  violations = omega (arith, h.violations, k.violations, violations_in-append rd a b, ap (λ r. violations_in r b) h.disparity);
+  disparity = k.disparity ∙ ap (λ r. disparity_along r b) h.disparity ∙ sym (disparity_along-append rd a b);
+}
+
+pub reads_four : (rd next : Rd) (count count' word same : ℕ) → word ≡ same → count' ≡ count + violations_in rd (four_symbols word) → next ≡ disparity_along rd (four_symbols word)
+    → Reads rd next count count' (four_symbols same)
+reads_four rd next count count' word same e c n = record {
+  violations = c ∙ ap (λ w. count + violations_in rd (four_symbols w)) e;
+  disparity = n ∙ ap (λ w. disparity_along rd (four_symbols w)) e;
+}
 
 -- ---- the symbol at a place
 

@@ -19,3 +19,9 @@ symbols_in _ = []
 abbrev pub word_at : List ℕ → ℕ → ℕ
 word_at octets at =
     word_of (slice_index octets at) (slice_index octets (at + 1)) (slice_index octets (at + 2)) (slice_index octets (at + 3)) (slice_index octets (at + 4))
+
+-- the sixteen symbols of the twenty octets from a place on
+abbrev pub sixteen_symbols : List ℕ → ℕ → List ℕ
+sixteen_symbols octets at =
+    four_symbols (word_at octets at)
+    ++ (four_symbols (word_at octets (at + 5)) ++ (four_symbols (word_at octets (at + 10)) ++ four_symbols (word_at octets (at + 15))))

@@ -1,5 +1,5 @@
 -- How the entries of this project's own tables are laid out. No contract of a public call names them.
-use Rattle.std.specs.Prelude.{◌≡◌, ◌≤◌, ◌+◌, ◌*◌, ℕ, ◌/◌, ◌%◌, Bool, ◌==◌, if◌then◌else◌, bit_and, Option, Some, None}
+use Rattle.std.specs.Prelude.{◌≡◌, ◌≤◌, ◌+◌, ◌*◌, ℕ, ◌/◌, ◌%◌, Bool, ◌==◌, if◌then◌else◌, bit_and, List, [], ◌∷◌, Option, Some, None}
 use Rattle.line_code.specs.declared.characters.Char.{Char}
 use Rattle.line_code.specs.declared.characters.Char.TheVariants.{Octet, Comma}
 use Rattle.line_code.specs.declared.characters.Rd.{Rd}
@@ -57,12 +57,7 @@ rd_number Plus = 1
 
 -- The marks of a symbol of these bits, each 1 or 0: whether the disparity after it is positive, whether it stays, and whether
 -- the symbol is a violation at negative and at positive disparity.
-pub record HasMarks (bits marks : ℕ) : Type 0 where
-  pub plus : ℕ
-  pub stays : ℕ
-  pub at_minus : ℕ
-  pub at_plus : ℕ
-  pub value : marks ≡ plus + 16 * stays + 256 * at_minus + 4096 * at_plus
+pub record HasMarks (bits plus stays at_minus at_plus : ℕ) : Type 0 where
   pub either : plus + stays ≤ 1
   pub minus_few : at_minus ≤ 1
   pub plus_few : at_plus ≤ 1
@@ -70,3 +65,19 @@ pub record HasMarks (bits marks : ℕ) : Type 0 where
   pub after_plus : rd_number (disparity_by_ones Plus bits) ≡ plus + stays
   pub violates_minus : is_violation_by (spelled_at Minus bits) ≡ at_minus
   pub violates_plus : is_violation_by (spelled_at Plus bits) ≡ at_plus
+
+-- The marks of symbols one after another: a number for each kind of mark, whose bit i is the mark of symbol i.
+abbrev pub HaveMarks : List ℕ → ℕ → ℕ → ℕ → ℕ → Type 0
+HaveMarks [] plus stays at_minus at_plus = (plus ≡ 0) × (stays ≡ 0) × (at_minus ≡ 0) × (at_plus ≡ 0)
+HaveMarks (bits ∷ symbols) plus stays at_minus at_plus =
+    HasMarks bits (plus % 2) (stays % 2) (at_minus % 2) (at_plus % 2)
+    × HaveMarks symbols (plus / 2) (stays / 2) (at_minus / 2) (at_plus / 2)
+
+-- the marks of at most sixteen symbols as one number, sixteen bits for each kind
+pub record AreMarkedBy (symbols : List ℕ) (marks : ℕ) : Type 0 where
+  pub plus : ℕ
+  pub stays : ℕ
+  pub at_minus : ℕ
+  pub at_plus : ℕ
+  pub value : marks ≡ plus + 65536 * stays + 4294967296 * at_minus + 281474976710656 * at_plus
+  pub have : HaveMarks symbols plus stays at_minus at_plus

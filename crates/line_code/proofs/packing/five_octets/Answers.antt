@@ -1,4 +1,4 @@
-use Rattle.std.proofs.Common.{◌≡◌, ◌∙◌, get_or, length, refl, ap, rules}
+use Rattle.std.proofs.Common.{◌≡◌, ◌∙◌, get_or, length, refl, rules}
 use Rattle.line_code.specs.declared.characters.Symbol.{Symbol}
 use Rattle.line_code.proofs.PackedSymbols.{bits_of_four, symbols_of_octets}
 use Rattle.line_code.proofs.packing.five_octets.Goals as goal

@@ -1,4 +1,4 @@
-use Rattle.std.proofs.Common.{◌≡◌, ◌+◌, ◌*◌, ◌/◌, ◌%◌, ℕ, get_or, arith, sym, ◌∙◌, ap}
+use Rattle.std.proofs.Common.{◌≡◌, ◌*◌, ◌/◌, ◌%◌, get_or, arith, sym, ◌∙◌, ap}
 use Rattle.line_code.specs.Packed.{symbols_in, word_at}
 use Rattle.line_code.proofs.ReadSymbols.{quarter, symbol_in}
 use Rattle.line_code.proofs.reading.symbol_at.Goals as goal

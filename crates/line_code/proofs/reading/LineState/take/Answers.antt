@@ -1,4 +1,4 @@
-use Rattle.std.proofs.Common.{◌≡◌, ◌+◌, ◌%◌, ◌<◌, ◌∙◌, ap, arith}
+use Rattle.std.proofs.Common.{◌+◌, ◌%◌, ◌<◌, ◌∙◌, ap, arith}
 use Rattle.line_code.proofs.DecodeTable.{past_by_ones}
 use Rattle.line_code.proofs.Spelling.{violations_of_entry}
 use Rattle.line_code.proofs.reading.LineState.take.Goals as goal
