@@ -103,16 +103,36 @@ fn marks_of_four(word: u64) -> u64
     low + 4 * high
 }
 
+/// The eight octets from `at` on as a number. Its lowest forty bits have the symbols of the first five octets, and its highest
+/// those of the last five.
+#[inline]
+fn long_word_at(octets: &[u8], at: usize) -> u64
+    requires { at + 8 ≤ length octets.now }
+    ensures first { four_symbols result ≡ four_symbols (word_at octets.now at) }
+    ensures last { result / 16777216 ≡ word_at octets.now (at + 3) }
+{
+    u64::from_le_bytes([
+        octets[at],
+        octets[at + 1],
+        octets[at + 2],
+        octets[at + 3],
+        octets[at + 4],
+        octets[at + 5],
+        octets[at + 6],
+        octets[at + 7],
+    ])
+}
+
 /// The marks of the sixteen symbols in the twenty octets from `at` on.
 #[inline]
 fn marks_of_sixteen(octets: &[u8], at: usize) -> u64
     requires { at + 20 ≤ length octets.now }
     ensures { AreMarkedBy (sixteen_symbols octets.now at) result }
 {
-    let first = marks_of_four(word_at(octets, at));
-    let second = marks_of_four(word_at(octets, at + 5));
-    let third = marks_of_four(word_at(octets, at + 10));
-    let fourth = marks_of_four(word_at(octets, at + 15));
+    let first = marks_of_four(long_word_at(octets, at));
+    let second = marks_of_four(long_word_at(octets, at + 5));
+    let third = marks_of_four(long_word_at(octets, at + 10));
+    let fourth = marks_of_four(long_word_at(octets, at + 12) / 16_777_216);
     first + 16 * second + 256 * (third + 16 * fourth)
 }
 
