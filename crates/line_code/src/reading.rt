@@ -54,6 +54,7 @@ impl LineState {
     }
 
     /// Takes the sixteen symbols of the twenty octets from `at` on, one after another.
+    #[cold]
     fn take_each(self, octets: &[u8], at: usize) -> LineState
         requires within { at + 20 ≤ length octets.now }
         requires few { self.violations < 4294967279 }
