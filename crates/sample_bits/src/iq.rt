@@ -8,7 +8,7 @@ ghost use Rattle.sample_bits.specs.Samples.{int_bit, sample_bit, FitsBits, IsWit
 ghost use Rattle.sample_bits.specs.SampleOfBits.{sample_at};
 
 use crate::interleaving::{unweave, weave};
-use crate::words::load;
+use crate::words::{load, load_whole};
 use std::marker::Model;
 
 /// A sample as plain numbers, which no width bounds.
@@ -111,7 +111,7 @@ impl<const M: u32> Iq<M> {
 
     // The bits of a sample that stand from bit `from` of the octets on.
     #[inline]
-    pub(crate) fn word_at(octets: &[u8], from: usize) -> u64
+    fn word_at(octets: &[u8], from: usize) -> u64
         requires most { M ≤ 20 }
         requires within { from + 2 * M ≤ 8 * length octets.now }
         ensures bits { (b : ℕ) → b < 2 * M → bit_at result b ≡ bit_of octets.now (from + b) }
@@ -119,6 +119,34 @@ impl<const M: u32> Iq<M> {
     {
         let bits = load(&octets[from / 8..]) >> (from % 8);
         bits & ((1 << (2 * M)) - 1)
+    }
+}
+
+impl<const M: u32> Iq<M> {
+    // The bits of a sample that stand from bit `bit` on of the eight octets from `octet` on.
+    #[inline]
+    fn word_within(octets: &[u8], octet: usize, bit: u32) -> u64
+        requires most { M ≤ 20 }
+        requires eight { octet + 8 ≤ length octets.now }
+        requires within { bit + 2 * M ≤ 64 }
+        requires shift { bit < 64 }
+        ensures bits { (b : ℕ) → b < 2 * M → bit_at result b ≡ bit_of octets.now (8 * octet + bit + b) }
+        ensures no_others { result < 2 ^ (2 * M) }
+    {
+        let bits = load_whole(&octets[octet..]) >> bit;
+        bits & ((1 << (2 * M)) - 1)
+    }
+
+    // The sample whose bits stand from bit `bit` on of the eight octets from `octet` on.
+    #[inline]
+    pub(crate) fn read_within(octets: &[u8], octet: usize, bit: u32) -> RawIq
+        requires least { 4 ≤ M }
+        requires most { M ≤ 20 }
+        requires eight { octet + 8 ≤ length octets.now }
+        requires within { bit + 2 * M ≤ 64 }
+        ensures { result ≡ sample_at M octets.now (8 * octet + bit) }
+    {
+        Self::deinterleave(Self::word_within(octets, octet, bit)).wide()
     }
 }
 

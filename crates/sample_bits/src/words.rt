@@ -27,8 +27,9 @@ pub(crate) fn load(octets: &[u8]) -> u64
     }
 }
 
+// The first 64 bits of octets that have so many.
 #[inline]
-fn load_whole(octets: &[u8]) -> u64
+pub(crate) fn load_whole(octets: &[u8]) -> u64
     requires { 8 ≤ length octets.now }
     ensures { (j : ℕ) → j < 64 → bit_at result j ≡ bit_of octets.now j }
 {
