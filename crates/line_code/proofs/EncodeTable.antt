@@ -30,16 +30,16 @@ holds_of_octets test = agree_below test (λ octet. true) 256
 pub at_octet : (test : ℕ → Bool) → holds_of_octets test ≡ true → (octet : ℕ) → octet < 256 → test octet ≡ true
 at_octet test h octet small = agree_below_at test (λ k. true) 256 octet h small
 
--- whether an entry is that of an octet at a disparity
-is_symbol_entry : Rd → ℕ → ℕ → Bool
-is_symbol_entry rd octet entry =
+-- whether an entry is that of an octet at a disparity, and another one tells the disparity after it
+is_symbol_entry : Rd → ℕ → ℕ → ℕ → Bool
+is_symbol_entry rd octet entry turning =
     bit_and entry SYMBOL_BITS == symbol_of rd (Octet octet)
-    && same_disparity (entry_disparity rd entry) (disparity_after rd (Octet octet))
+    && same_disparity (entry_disparity rd turning) (disparity_after rd (Octet octet))
 
-is_symbol_entry-true : (rd : Rd) (octet entry : ℕ) → octet < 256 → is_symbol_entry rd octet entry ≡ true
-    → Spells rd (Octet octet) (bit_and entry SYMBOL_BITS) (entry_disparity rd entry)
+is_symbol_entry-true : (rd : Rd) (octet entry turning : ℕ) → octet < 256 → is_symbol_entry rd octet entry turning ≡ true
+    → Spells rd (Octet octet) (bit_and entry SYMBOL_BITS) (entry_disparity rd turning)
 unfolding is_symbol_entry
-is_symbol_entry-true rd octet entry small h =
+is_symbol_entry-true rd octet entry turning small h =
     let parts = and_parts (bit_and entry SYMBOL_BITS == symbol_of rd (Octet octet)) _ h in
     record {
       character = small;
@@ -47,20 +47,20 @@ is_symbol_entry-true rd octet entry small h =
       disparity = same_disparity-true _ _ parts.1;
     }
 
--- a table whose 256 entries pass
+-- a table whose 256 entries pass, where the entries at negative disparity tell the disparity after a symbol
 from_table : (rd : Rd) (table : List ℕ)
-    → holds_of_octets (λ octet. is_symbol_entry rd octet (get_or table octet 0)) ≡ true
+    → holds_of_octets (λ octet. is_symbol_entry rd octet (get_or table octet 0) (get_or SYMBOLS_AT_MINUS octet 0)) ≡ true
     → (octet : ℕ) → octet < 256
-    → Spells rd (Octet octet) (bit_and (get_or table octet 0) SYMBOL_BITS) (entry_disparity rd (get_or table octet 0))
+    → Spells rd (Octet octet) (bit_and (get_or table octet 0) SYMBOL_BITS) (entry_disparity rd (get_or SYMBOLS_AT_MINUS octet 0))
 from_table rd table h octet small =
-    is_symbol_entry-true rd octet (get_or table octet 0) small
-    (at_octet (λ k. is_symbol_entry rd k (get_or table k 0)) h octet small)
+    is_symbol_entry-true rd octet (get_or table octet 0) (get_or SYMBOLS_AT_MINUS octet 0) small
+    (at_octet (λ k. is_symbol_entry rd k (get_or table k 0) (get_or SYMBOLS_AT_MINUS k 0)) h octet small)
 
-minus_passes : holds_of_octets (λ octet. is_symbol_entry Minus octet (get_or SYMBOLS_AT_MINUS octet 0)) ≡ true
+minus_passes : holds_of_octets (λ octet. is_symbol_entry Minus octet (get_or SYMBOLS_AT_MINUS octet 0) (get_or SYMBOLS_AT_MINUS octet 0)) ≡ true
 unfolding is_symbol_entry code_on_literals
 minus_passes = refl
 
-plus_passes : holds_of_octets (λ octet. is_symbol_entry Plus octet (get_or SYMBOLS_AT_PLUS octet 0)) ≡ true
+plus_passes : holds_of_octets (λ octet. is_symbol_entry Plus octet (get_or SYMBOLS_AT_PLUS octet 0) (get_or SYMBOLS_AT_MINUS octet 0)) ≡ true
 unfolding is_symbol_entry code_on_literals
 plus_passes = refl
 
@@ -71,7 +71,7 @@ Spells-minus = from_table Minus SYMBOLS_AT_MINUS minus_passes
 
 pub Spells-plus : (octet : ℕ) → octet < 256
     → Spells Plus (Octet octet) (bit_and (get_or SYMBOLS_AT_PLUS octet 0) SYMBOL_BITS)
-    (entry_disparity Plus (get_or SYMBOLS_AT_PLUS octet 0))
+    (entry_disparity Plus (get_or SYMBOLS_AT_MINUS octet 0))
 Spells-plus = from_table Plus SYMBOLS_AT_PLUS plus_passes
 
 -- the entries of the comma
