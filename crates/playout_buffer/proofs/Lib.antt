@@ -9,3 +9,4 @@ pub mod Room
 pub mod Settling
 pub mod SlotSteps
 pub mod Written
+pub mod CountingOn

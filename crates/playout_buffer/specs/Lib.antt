@@ -6,3 +6,4 @@ pub mod Slots
 pub mod Received
 pub mod Fresh
 pub mod Laws
+pub mod PlayedFrame

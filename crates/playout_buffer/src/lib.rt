@@ -2,6 +2,7 @@
 #![tactic(auto)]
 
 mod laws;
+mod played_frame;
 mod playout;
 mod put;
 mod window;

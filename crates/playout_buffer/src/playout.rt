@@ -6,6 +6,7 @@ ghost use Rattle.playout_buffer.specs.Candidate.{candidate_of};
 ghost use Rattle.playout_buffer.specs.Conditions.{IsWindow, payload_octets};
 ghost use Rattle.playout_buffer.specs.Held.{is_awaited, put_answer, payloads_with, part_in};
 
+use crate::played_frame::PlayedFrame;
 use crate::{Put, Window};
 use link_base::NoMemory;
 use std::alloc::Global;
@@ -23,6 +24,8 @@ pub struct Playout {
     present: u64,
     // How many packets have windows that have opened.
     opened: u64,
+    // The frame that is played at the present tick. Before tick `playout` none is, and this is frame 0.
+    played: PlayedFrame,
     // Of each slot, one more than the number of its packet, or 0 where it is empty.
     numbers: Vec<u64>,
     // The payloads of the slots, one after another.
@@ -36,13 +39,15 @@ impl Model for Playout {
 
     ghost coded = { view_code };
 
-    ghost use Rattle.std.specs.Prelude.{◌≡◌};
+    ghost use Rattle.std.specs.Prelude.{◌≡◌, ◌-◌};
     ghost use Rattle.playout_buffer.specs.Candidate.{packets_opened};
+    ghost use Rattle.playout_buffer.specs.PlayedFrame.{IsPlayedFrame};
     ghost use Rattle.playout_buffer.specs.Slots.{held_in, AreSlots};
 
     ghost view = { λ p. record { window = p.window; tick = p.present; held = held_in p.window p.present p.numbers.items p.octets.items } };
 
-    ghost invariant = { λ p. AreSlots p.window p.present p.numbers.items p.octets.items × (p.opened ≡ packets_opened p.window p.present) };
+    ghost invariant = { λ p. AreSlots p.window p.present p.numbers.items p.octets.items × (p.opened ≡ packets_opened p.window p.present)
+        × IsPlayedFrame p.window.frames p.window.cap (p.present - p.window.playout) p.played };
 }
 
 impl Playout {
@@ -57,6 +62,7 @@ impl Playout {
             window,
             present: 0,
             opened: u64::from(1u32.saturating_sub(window.lmin) / window.frames),
+            played: PlayedFrame::first(),
             numbers: vec![in alloc; 0; slots]?,
             octets: vec![in alloc; 0; slots * payload]?,
         })
@@ -87,18 +93,16 @@ impl Playout {
         ensures octets { option_copied result ≡ part_in self.now.window self.now.held n }
         ensures length { ForSome result (λ octets. length octets.now ≡ self.now.window.octets) }
     {
-        let Window {
-            frames,
-            cap,
-            octets,
-            ..
-        } = self.window;
-        let number = n / u64::from(frames);
-        let slot = (number % u64::from(cap)) as usize;
+        let Window { frames, octets, .. } = self.window;
+        let PlayedFrame {
+            number,
+            slot,
+            place,
+        } = self.played;
         if self.numbers[slot] != number + 1 {
             return None;
         }
-        let start = (slot * frames as usize + (n % u64::from(frames)) as usize) * octets;
+        let start = (slot * frames as usize + place as usize) * octets;
         Some(piece_at(self.octets.as_slice(), start, octets))
     }
 
@@ -107,6 +111,7 @@ impl Playout {
         requires { self.old.tick < 2 ^ 41 }
         ensures { self.new ≡ record self.old { tick = self.old.tick + 1; held = retain_keys self.old.held (is_awaited self.old.window (self.old.tick + 1)) } }
     {
+        self.played = self.played.at_next_tick(self.window, self.present);
         self.present += 1;
         self.opened = self.window.opened(self.present, self.opened);
     }

@@ -9,6 +9,7 @@ pub invariant_of-self : goal.invariant_of-self
 invariant_of-self c = (
   advanced_slots c.self.inside.window c.self.inside.present c.self.inside.numbers.items c.self.inside.octets.items c.self.invariant.0 (rw (← c.self.view_is) at c.requires),
   c.opened-self-inside.ensures,
+  c.at_next_tick-self-inside.ensures,
 )
 
 pub returns : goal.returns

@@ -65,7 +65,7 @@ invariant_of-self c =
     let fits = payload_fits s.window s.present s.numbers.items s.octets.items c.self.invariant.0 c.args.seq i (sym c.in-Some.ensures) c.args.payload.now long in
     let after = octets_after s.octets c.write_at.new.octets c.as_mut_slice.result.now c.args.payload.now (i % s.window.cap * length c.args.payload.now) fits
     c.as_mut_slice.ensures.value c.as_mut_slice.ensures.len (rw c.from.ensures at c.write_at.ensures) in
-    (rw c.from.ensures (subst (AreSlots s.window s.present (set s.numbers.items (i % s.window.cap) (i + 1))) (sym after) slots), c.self.invariant.1)
+    (rw c.from.ensures (subst (AreSlots s.window s.present (set s.numbers.items (i % s.window.cap) (i + 1))) (sym after) slots), c.self.invariant.1, c.self.invariant.2)
 
 pub returns-clause-answer : goal.returns-clause-answer
 returns-clause-answer c =
