@@ -155,18 +155,18 @@ fn there_are_at_most_4096_announcements_and_65536_events(rt: HostRuntime) -> Res
     Ok(())
 }
 
-/// The text of 1,100 events is longer than what is gathered at once.
+/// The text of 2,000 events is longer than what is gathered at once.
 #[test]
 fn a_write_fault_comes_in_any_piece_of_the_text(rt: HostRuntime) -> Result<(), Fail> {
     let mut file = String::from_str(rt.alloc(), HEADER)?;
     let mut text = String::new(rt.alloc());
-    for _ in 0..1100 {
+    for _ in 0..2000 {
         file.push_str("start 1\n")?;
         text.push_str("1 B 3 20\n")?;
     }
     file.push_str("end\n")?;
     let octets = text.as_str().as_bytes();
-    for room in [0, 1, 8000, 8191, 8192, 8193, 9000, 9900] {
+    for room in [0, 1, 16_000, 16_383, 16_384, 16_385, 17_999] {
         let outcome = play(rt.alloc(), file.as_str(), room)?;
         assert_eq!(rt; outcome.status, Status::WriteFault, "room {room}");
         assert!(rt; room <= octets.len());

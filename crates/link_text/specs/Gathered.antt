@@ -4,7 +4,7 @@ use Rattle.link_base.specs.Sink.{Taken, Appends, AppendsFront}
 
 -- how many octets of text are held at most
 abbrev pub text_capacity : ℕ
-text_capacity = 8192
+text_capacity = 16384
 
 -- More text was gathered after that in hand: what was written of both and what is in hand are the two, in their order.
 pub record Gathers (more hand : List ℕ) (old : Taken) (hand' : List ℕ) (new : Taken) : Type 0 where

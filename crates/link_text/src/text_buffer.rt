@@ -11,7 +11,7 @@ use link_base::{Failed, Sink, put_all};
 use std::marker::Model;
 
 /// How many octets of text are held at most.
-const CAPACITY: usize = 8192;
+const CAPACITY: usize = 16_384;
 
 /// Text that is gathered, so that it is written in few pieces. Clauses see it as the octets in hand.
 #[derive(Drop)]
@@ -28,7 +28,7 @@ impl Model for TextBuffer {
 
     ghost view = { λ b. take b.len b.octets };
 
-    ghost invariant = { λ b. b.len ≤ 8192 };
+    ghost invariant = { λ b. b.len ≤ 16384 };
 }
 
 impl TextBuffer {
