@@ -1,18 +1,21 @@
 -- Entries, carrier by carrier.
-use Rattle.std.proofs.Common.{◌≡◌, ℕ, zero, suc, ◌+◌, ◌-◌, ◌<◌, List, [], ◌∷◌, ◌++◌, length, take, get_or, All, flat_map, true, pos, Option, append-nil, append_assoc, refl, sym, ap, ◌∙◌, subst, arith}
+use Rattle.std.proofs.Common.{◌≡◌, ℕ, zero, suc, ◌+◌, ◌-◌, ◌<◌, ◌≤◌, ◌^◌, List, [], ◌∷◌, ◌++◌, length, take, get_or, All, flat_map, true, pos, Option, append-nil, append_assoc, refl, sym, ap, ◌∙◌, subst, arith}
 use Rattle.std.specs.Int.{bit_at}
 use Rattle.std.specs.List.{range_with_len}
+use Rattle.std.proofs.lemmas.List.{get_or-take, length-take-le}
 use Rattle.std.proofs.lemmas.List.FromFn.{map-range_with_len_more}
 use Rattle.link_base.specs.Record.{Record}
 use Rattle.link_receiver_blocks.specs.Containers.{unless_marked}
 use Rattle.sample_bits.specs.declared.iq.RawIq.{RawIq}
 use Rattle.link_receiver.specs.Output.{entries_at, entries_before, entries_of}
+use Rattle.carrier_plan.specs.declared.plan.Carrier.{Carrier}
 use Rattle.carrier_plan.specs.declared.plan.Plan.{Plan}
 use Rattle.link_receiver.specs.Runs.{CanBeListed, entries_from, entries_of_before, entries_of_kept, entries_of_run, entry_of_run}
-use Rattle.link_receiver.specs.Sessions.{IsSession, SessionView, StandsFor}
+use Rattle.link_receiver.specs.Sessions.{IsSession, KeepsCarrier, SessionView, StandsFor}
 use Rattle.link_receiver.specs.declared.carrier_in_hand.CarrierInHand.{CarrierInHand}
 use Rattle.link_receiver.specs.declared.entry.Entry.{Entry}
 use Rattle.link_receiver.proofs.OctetsInHand.{item, item_at}
+use Rattle.link_receiver.proofs.Ranges.{map-ranges}
 use Rattle.link_receiver.proofs.Readiness.{get_or-any, ready_number}
 
 -- one carrier more
@@ -114,3 +117,65 @@ stands-listed s entries records is some same stands = record {
   entries = λ listed. same ∙ listed-before s records is some stands;
   control = stands.control;
 }
+
+-- ---- the samples of a carrier that left
+
+-- the samples behind the first ones give no entry
+run-front : (tick c number marks : ℕ) (samples : List RawIq) (count : ℕ) → count ≤ length samples
+    → entries_of_run tick c number marks (take count samples) (length (take count samples)) ≡ entries_of_run tick c number marks samples count
+run-front tick c number marks samples count within =
+    let zero_sample : RawIq = record { i = pos 0; q = pos 0 } in
+    ap (entries_of_run tick c number marks (take count samples)) (length-take-le count samples within)
+    ∙ map-ranges (entry_of_run tick c number marks (take count samples)) (entry_of_run tick c number marks samples) 0 0 count
+    (λ i less. let here : 0 + i < count = omega arith in
+    ap (λ v. the_entry tick c (number + (0 + i)) (unless_marked (bit_at marks (0 + i)) v)) (get_or-take count samples (0 + i) zero_sample here))
+
+-- what is lent of carrier c of a session, which is seen as `now`
+module _ (s now : SessionView) (same : s ≡ now) (is : IsSession s) (c : ℕ) (kept : CarrierInHand) (read : kept ≡ get_or s.carriers c kept) (inside : c < length now.plan.carriers)
+    (samples : List RawIq) (all : samples ≡ kept.samples.items) where
+  within : c < length s.plan.carriers
+  within = subst (λ (v : SessionView). c < length v.plan.carriers) (sym same) inside
+
+  abbrev the_carrier : Carrier
+  the_carrier = item s.plan.carriers c within
+
+  keeps_carrier : KeepsCarrier s.plan s.frames s.tick c the_carrier kept
+  keeps_carrier = subst (KeepsCarrier s.plan s.frames s.tick c the_carrier) (sym read) (is.carriers c the_carrier (item_at s.plan.carriers c within) kept)
+
+  pub leaving-length : kept.count ≡ length (take kept.count samples)
+  leaving-length =
+      let few = keeps_carrier.few in
+      let room = keeps_carrier.room in
+      let long = ap length all in
+      sym (length-take-le kept.count samples (omega arith))
+
+  pub leaving-few : length (take kept.count samples) ≤ 32
+  leaving-few =
+      let few = keeps_carrier.few in
+      let long = leaving-length in
+      omega arith
+
+  pub leaving-numbers : kept.number + length (take kept.count samples) < 2 ^ 64
+  leaving-numbers =
+      subst (λ n. kept.number + n < 2 ^ 64) leaving-length
+      (ready_number s.plan s.frames s.tick c the_carrier kept is.good (item_at s.plan.carriers c within) keeps_carrier is.few)
+
+  entries_kept : (records : List Record) → StandsFor s records
+      → entries_of_run (s.tick - 1) c kept.number kept.marks (take kept.count samples) (length (take kept.count samples))
+      ≡ entries_of_before s.plan s.frames records s.tick c
+  entries_kept records stands =
+      let keeps = keeps_carrier in
+      let entries = (stands.carriers c the_carrier keeps.flow (item_at s.plan.carriers c within) keeps.listed kept).entries in
+      let few = keeps.few in
+      let room = keeps.room in
+      let long = ap length all in
+      run-front (s.tick - 1) c kept.number kept.marks samples kept.count (omega arith)
+      ∙ ap (λ xs. entries_of_run (s.tick - 1) c kept.number kept.marks xs kept.count) all
+      ∙ subst (λ (k : CarrierInHand). entries_of_kept (s.tick - 1) c k ≡ entries_of_before s.plan s.frames records s.tick c) (sym read) entries
+
+  pub leaving-entries : (records : List Record) → StandsFor now records
+      → entries_of_run (now.tick - 1) c kept.number kept.marks (take kept.count samples) (length (take kept.count samples))
+      ≡ entries_of_before now.plan now.frames records now.tick c
+  leaving-entries records stands =
+      subst (λ (v : SessionView). entries_of_run (v.tick - 1) c kept.number kept.marks (take kept.count samples) (length (take kept.count samples))
+      ≡ entries_of_before v.plan v.frames records v.tick c) same (entries_kept records (subst (λ v. StandsFor v records) (sym same) stands))

@@ -11,12 +11,13 @@ mod listing;
 mod parts;
 mod playing;
 mod session;
-#[cfg(test)]
-mod tests;
 mod word_sizes;
 
 pub use arrive::{Arrive, Foreign};
-pub use entry::{Counts, Entry};
+pub use entry::{Counts, Entry, LeavingSamples};
 pub use laws::{candidates_are_unique, entries_are_settled, taken_is_settled};
 pub use session::Session;
 pub use word_sizes::AnySession;
+
+#[cfg(test)]
+mod tests;

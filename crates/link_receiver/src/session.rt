@@ -1,5 +1,5 @@
 // Plays a run: octets arrive at the present tick, and samples leave at each.
-ghost use Rattle.std.specs.Prelude.{◌≡◌, ◌+◌, ◌<◌, ◌≤◌, ◌^◌, ◌++◌, ◌∷◌, [], List, IfOk, IsTrue, true, false, length, slice_get, Some};
+ghost use Rattle.std.specs.Prelude.{◌≡◌, ◌+◌, ◌-◌, ◌<◌, ◌≤◌, ◌^◌, ◌++◌, ◌∷◌, [], List, IfOk, IsTrue, true, false, length, slice_get, Some};
 ghost use Rattle.carrier_plan.specs.declared.plan.Flow.{Flow as OneFlow};
 ghost use Rattle.link_base.specs.Record.{Record};
 ghost use Rattle.plan_checker.specs.Packets.{run_packets};
@@ -8,12 +8,13 @@ ghost use Rattle.plan_checker.specs.WordSize.{word_size};
 ghost use Rattle.link_receiver.specs.Answers.{answer_by, arrives};
 ghost use Rattle.link_receiver.specs.Output.{entries_before};
 ghost use Rattle.link_receiver.specs.Received.{taken};
+ghost use Rattle.link_receiver.specs.Runs.{entries_of_before, entries_of_run};
 ghost use Rattle.link_receiver.specs.Sessions.{StandsFor};
 
 use crate::arrival::arrival_of;
 use crate::arrive::Arrive;
 use crate::carrier_in_hand::{CarrierInHand, MOST_SAMPLES, carriers_in_hand};
-use crate::entry::{Counts, Entry};
+use crate::entry::{Counts, Entry, LeavingSamples};
 use crate::flow_in_hand::{FlowInHand, advance_all, flows_in_hand};
 use crate::listing::list_carriers;
 use crate::playing::play_tick;
@@ -128,8 +129,9 @@ impl<const Y: usize> Session<Y> {
         }
     }
 
-    // Plays the present tick, and goes to the next. The entries of the samples that leave are not listed.
-    fn play(&mut self)
+    /// Plays the present tick, and goes to the next. The samples that leave are lent by `leaving`, and are not listed as entries.
+    /// What arrives at a tick has to be handed in before.
+    pub fn play(&mut self)
         requires { self.old.tick < ticks_of_run self.old.plan self.old.frames }
         ensures plan { self.new.plan ≡ self.old.plan }
         ensures frames { self.new.frames ≡ self.old.frames }
@@ -181,6 +183,23 @@ impl<const Y: usize> Session<Y> {
             &mut self.entries,
         );
         self.listed = true;
+    }
+
+    /// The samples of carrier `c` that left at the tick that was played last. Before the first tick there are none.
+    pub fn leaving(&self, c: usize) -> LeavingSamples<'_>
+        requires { c < length self.now.plan.carriers }
+        ensures few { length result.samples.now ≤ 32 }
+        ensures numbers { result.number + length result.samples.now < 2 ^ 64 }
+        ensures entries { (records : List Record) → StandsFor self.now records
+            → entries_of_run (self.now.tick - 1) c result.number result.marks result.samples.now (length result.samples.now)
+            ≡ entries_of_before self.now.plan self.now.frames records self.now.tick c }
+    {
+        let kept = &self.carriers[c];
+        LeavingSamples {
+            number: kept.number,
+            samples: &kept.samples[..kept.count as usize],
+            marks: kept.marks,
+        }
     }
 
     /// The entries of the tick that was played last, by carrier, then number. Before the first tick there are none.

@@ -1,10 +1,8 @@
 //! Captures of one flow, played, and what is answered to each kind of octets.
-ghost use Rattle.std.specs.Prelude.{◌≡◌, ◌<◌, ◌≤◌, ◌^◌, IfOk, length};
+ghost use Rattle.std.specs.Prelude.{◌≡◌, ◌<◌, ◌≤◌, ◌^◌, length};
 
 use crate::{AnySession, Arrive, Counts, Entry, Foreign};
-use carrier_plan::{
-    Carrier, CarrierList, Flow, FlowList, Method, Mode, NumberList, Piece, PieceList, Plan,
-};
+use carrier_plan::read;
 use link_base::NoMemory;
 use plan_checker::{Checked, check};
 use roe_header::NotRoe;
@@ -35,63 +33,27 @@ fn packet_of(seq: u32, first: [u8; 8]) -> Octets {
     octets
 }
 
-// A plan on option 1 in mode `bytes`, which plays each frame two ticks after it: one carrier of one piece, and flow 7, whose
-// packets hold one frame, count 0 to 3 in both fields, and arrive 0 to 2 ticks after it.
-fn plan_of(
-    alloc: Global,
-    method: Method,
-    [s, k, m]: [u32; 3],
-    size: u32,
-) -> Result<Plan, NoMemory> {
-    let mut pieces = PieceList::new(alloc);
-    pieces.push(Piece { start: 0, size })?;
-    let mut carriers = CarrierList::new(alloc);
-    carriers.push(Carrier {
-        method,
-        s,
-        k,
-        m,
-        pieces,
-    })?;
-    let mut places = NumberList::new(alloc);
-    places.push(0)?;
-    let mut flows = FlowList::new(alloc);
-    flows.push(Flow {
-        id: 7,
-        dst: [2, 0, 0, 0, 0, 1],
-        src: [2, 0, 0, 0, 0, 2],
-        control: true,
-        carriers: places,
-        frames: 1,
-        lmin: 0,
-        lmax: 2,
-        cap: 3,
-        p: 4,
-        q: 4,
-    })?;
-    Ok(Plan {
-        option: 1,
-        mode: Mode::Bytes,
-        playout: 2,
-        carriers,
-        flows,
-    })
-}
+// Plans on option 1 in mode `bytes`, which play each frame two ticks after it: one carrier of one piece, and flow 7, whose
+// packets hold one frame, count 0 to 3 in both fields, and arrive 0 to 2 ticks after it. By the first the carrier has a sample of
+// 8 bits in each frame, by the second two samples of 15 bits in five frames, by method 3.
+const SAMPLE_A_FRAME: &str =
+    "version = 1\noption = 1\nmode = \"bytes\"\nplayout = 2\n[[carrier]]\nmethod = 1\ns = 1\nk = 1\nm = 8\nstart = 0\nsize = 16\n[[flow]]\nid = 7\ndst = \"020000000001\"\nsrc = \"020000000002\"\ncontrol = true\ncarriers = [0]\nframes = 1\nlmin = 0\nlmax = 2\ncap = 3\np = 4\nq = 4\n";
+
+const TWO_IN_FIVE_FRAMES: &str =
+    "version = 1\noption = 1\nmode = \"bytes\"\nplayout = 2\n[[carrier]]\nmethod = 3\ns = 2\nk = 5\nm = 15\nstart = 0\nsize = 30\n[[flow]]\nid = 7\ndst = \"020000000001\"\nsrc = \"020000000002\"\ncontrol = true\ncarriers = [0]\nframes = 1\nlmin = 0\nlmax = 2\ncap = 3\np = 4\nq = 4\n";
+
+// Two LTE carriers of 20 MHz on option 7, whose symbols are carried, four frames in a packet.
+const SYMBOLS_OF_OPTION_7: &str =
+    "version = 1\noption = 7\nmode = \"tunnel\"\nplayout = 33\n[[carrier]]\nmethod = 1\ns = 8\nk = 1\nm = 15\nstart = 0\nsize = 240\n[[carrier]]\nmethod = 1\ns = 8\nk = 1\nm = 15\nstart = 240\nsize = 240\n[[flow]]\nid = 7\ndst = \"020000000001\"\nsrc = \"020000000002\"\ncontrol = true\ncarriers = [0, 1]\nframes = 4\nlmin = 10\nlmax = 30\ncap = 6\np = 256\nq = 256\n";
 
 // A plan that meets the rules.
-fn checked(rt: &impl Abort, plan: Plan) -> Checked
+fn checked(rt: &impl Abort, alloc: Global, text: &str) -> Checked
     ensures { 0 < length result.flows }
 {
+    let plan = read(alloc, text.as_bytes()).expect(rt, "a plan");
     let checked = check(plan).expect(rt, "a plan that meets the rules");
     assert!(rt; checked.plan().flows.len() > 0);
     checked
-}
-
-// One carrier with a sample of 8 bits in each frame, by method 1.
-fn one_sample_a_frame(rt: &impl Abort, alloc: Global) -> Result<Checked, NoMemory>
-    ensures { IfOk result (λ plan. 0 < length plan.flows) }
-{
-    Ok(checked(rt, plan_of(alloc, Method::Sample, [1, 1, 8], 16)?))
 }
 
 // What arrives at the present tick of a capture is answered as it says.
@@ -223,27 +185,6 @@ const WITHOUT_FIRST: [Sample; 4] = [
     (6, 3, Some((0, 1))),
 ];
 
-#[test]
-fn samples_leave_three_ticks_after_they_are_handed_in_or_are_marked(
-    rt: HostRuntime,
-) -> Result<(), Fail> {
-    let alloc = rt.alloc();
-    let plan = one_sample_a_frame(&rt, alloc)?;
-    let rows = [
-        (IN_ORDER.as_slice(), &ALL, 5),
-        (ONE_LOST.as_slice(), &WITHOUT_THIRD, 4),
-        (TWICE_AND_BACKWARDS.as_slice(), &ALL, 5),
-        (AT_THE_LAST_TICK.as_slice(), &ALL, 5),
-        (A_TICK_LATER.as_slice(), &WITHOUT_FIRST, 4),
-    ];
-    for (capture, samples, taken) in rows {
-        let (entries, counts) = played(&rt, alloc, &plan, 4, capture)?;
-        check_entries(&rt, entries.as_slice(), samples);
-        assert_eq!(rt; counts, Counts { taken, packets: 5 });
-    }
-    Ok(())
-}
-
 // Blocks of two samples and five frames: the samples of block 0 stand in frames 7 and 9, and leave seven ticks after they are
 // handed in. In 30 bits (1, -1) has each bit of Q and the lowest of I, and (16383, -16384) all bits of I but the highest, and of
 // Q that alone.
@@ -262,16 +203,55 @@ const COMPATIBLE: [Arrival; 2] = [
     ),
 ];
 
+const THE_FIRST_OF_TWO: [Arrival; 1] = [(
+    7,
+    0x1_0003,
+    [0, 0xAB, 0xAA, 0xAA, 0x2A, 0, 0, 0],
+    Arrive::Taken { flow: 0, number: 7 },
+)];
+
+const BOTH: [Sample; 2] = [(9, 0, Some((1, -1))), (11, 1, Some((16_383, -16_384)))];
+
+const THE_FIRST: [Sample; 2] = [(9, 0, Some((1, -1))), (11, 1, None)];
+
+// A plan, the length of the run in ticks, its capture, the samples that leave, and how many packets were received, of how many.
+type Row = (
+    &'static str,
+    u16,
+    &'static [Arrival],
+    &'static [Sample],
+    u64,
+    u64,
+);
+
+const ROWS: [Row; 7] = [
+    (SAMPLE_A_FRAME, 4, &IN_ORDER, &ALL, 5, 5),
+    (SAMPLE_A_FRAME, 4, &ONE_LOST, &WITHOUT_THIRD, 4, 5),
+    (SAMPLE_A_FRAME, 4, &TWICE_AND_BACKWARDS, &ALL, 5, 5),
+    (SAMPLE_A_FRAME, 4, &AT_THE_LAST_TICK, &ALL, 5, 5),
+    (SAMPLE_A_FRAME, 4, &A_TICK_LATER, &WITHOUT_FIRST, 4, 5),
+    (TWO_IN_FIVE_FRAMES, 5, &COMPATIBLE, &BOTH, 2, 10),
+    (TWO_IN_FIVE_FRAMES, 5, &THE_FIRST_OF_TWO, &THE_FIRST, 1, 10),
+];
+
 #[test]
-fn samples_of_the_compatible_method_leave_or_are_marked(rt: HostRuntime) -> Result<(), Fail> {
+fn samples_leave_after_their_delay_or_are_marked(rt: HostRuntime) -> Result<(), Fail> {
     let alloc = rt.alloc();
-    let plan = checked(&rt, plan_of(alloc, Method::Compatible, [2, 5, 15], 30)?);
-    let both = [(9, 0, Some((1, -1))), (11, 1, Some((16_383, -16_384)))];
-    let one = [(9, 0, Some((1, -1))), (11, 1, None)];
-    for (packets, samples) in [(2, &both), (1, &one)] {
-        let (entries, _) = played(&rt, alloc, &plan, 5, &COMPATIBLE[..packets])?;
+    for (plan, frames, capture, samples, taken, packets) in ROWS {
+        let plan = checked(&rt, alloc, plan);
+        let (entries, counts) = played(&rt, alloc, &plan, u64::from(frames), capture)?;
         check_entries(&rt, entries.as_slice(), samples);
+        assert_eq!(rt; counts, Counts { taken, packets });
     }
+    Ok(())
+}
+
+#[test]
+fn a_run_of_the_greatest_length_is_begun(rt: HostRuntime) -> Result<(), Fail> {
+    let plan = checked(&rt, rt.alloc(), SYMBOLS_OF_OPTION_7);
+    let session = AnySession::begin(rt.alloc(), &plan, 1 << 40)?;
+    let packets = 274_877_906_945;
+    assert_eq!(rt; session.counts(0), Counts { taken: 0, packets });
     Ok(())
 }
 
@@ -286,7 +266,7 @@ fn altered(place: usize, octets: [u8; 2]) -> Octets
 
 #[test]
 fn the_first_reason_why_octets_are_not_taken(rt: HostRuntime) -> Result<(), Fail> {
-    let plan = one_sample_a_frame(&rt, rt.alloc())?;
+    let plan = checked(&rt, rt.alloc(), SAMPLE_A_FRAME);
     let mut session = AnySession::begin(rt.alloc(), &plan, 1)?;
     assert_eq!(rt; session.entries().len(), 0);
     let ether_type = NotRoe::EtherType { got: 0x0800 };

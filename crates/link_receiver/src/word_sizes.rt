@@ -1,5 +1,5 @@
 // A session of a plan in words of any size.
-ghost use Rattle.std.specs.Prelude.{◌≡◌, ◌+◌, ◌<◌, ◌≤◌, ◌^◌, ◌++◌, ◌∷◌, [], List, IfOk, IsTrue, true, length, slice_get, Some};
+ghost use Rattle.std.specs.Prelude.{◌≡◌, ◌+◌, ◌-◌, ◌<◌, ◌≤◌, ◌^◌, ◌++◌, ◌∷◌, [], List, IfOk, IsTrue, true, length, slice_get, Some};
 ghost use Rattle.carrier_plan.specs.declared.plan.Flow.{Flow as OneFlow};
 ghost use Rattle.link_base.specs.Record.{Record};
 ghost use Rattle.plan_checker.specs.Packets.{run_packets};
@@ -7,10 +7,11 @@ ghost use Rattle.plan_checker.specs.Run.{ticks_of_run};
 ghost use Rattle.link_receiver.specs.Answers.{arrives};
 ghost use Rattle.link_receiver.specs.Output.{entries_before};
 ghost use Rattle.link_receiver.specs.Received.{taken};
+ghost use Rattle.link_receiver.specs.Runs.{entries_of_before, entries_of_run};
 ghost use Rattle.link_receiver.specs.Sessions.{StandsFor};
 
 use crate::arrive::Arrive;
-use crate::entry::{Counts, Entry};
+use crate::entry::{Counts, Entry, LeavingSamples};
 use crate::session::Session;
 use link_base::NoMemory;
 use plan_checker::{Checked, octets_of_word};
@@ -92,6 +93,24 @@ impl AnySession {
         at_each_size!(One Two Four Five Eight Ten Sixteen)
     }
 
+    /// Plays the present tick, and goes to the next. The samples that leave are lent by `leaving`, and are not listed as entries.
+    pub fn play(&mut self)
+        requires { self.old.tick < ticks_of_run self.old.plan self.old.frames }
+        ensures plan { self.new.plan ≡ self.old.plan }
+        ensures frames { self.new.frames ≡ self.old.frames }
+        ensures tick { self.new.tick ≡ self.old.tick + 1 }
+        ensures stands { (records : List Record) → StandsFor self.old records → StandsFor self.new records }
+    {
+        macro_rules! at_each_size {
+            ($($size:ident)*) => {
+                match &mut self.session {
+                    $(Sized::$size(session) => session.play(),)*
+                }
+            };
+        }
+        at_each_size!(One Two Four Five Eight Ten Sixteen)
+    }
+
     /// Plays the present tick, goes to the next, and lists the entries of the samples that leave.
     pub fn tick(&mut self)
         requires { self.old.tick < ticks_of_run self.old.plan self.old.frames }
@@ -105,6 +124,25 @@ impl AnySession {
             ($($size:ident)*) => {
                 match &mut self.session {
                     $(Sized::$size(session) => session.tick(),)*
+                }
+            };
+        }
+        at_each_size!(One Two Four Five Eight Ten Sixteen)
+    }
+
+    /// The samples of carrier `c` that left at the tick that was played last. Before the first tick there are none.
+    pub fn leaving(&self, c: usize) -> LeavingSamples<'_>
+        requires { c < length self.now.plan.carriers }
+        ensures few { length result.samples.now ≤ 32 }
+        ensures numbers { result.number + length result.samples.now < 2 ^ 64 }
+        ensures entries { (records : List Record) → StandsFor self.now records
+            → entries_of_run (self.now.tick - 1) c result.number result.marks result.samples.now (length result.samples.now)
+            ≡ entries_of_before self.now.plan self.now.frames records self.now.tick c }
+    {
+        macro_rules! at_each_size {
+            ($($size:ident)*) => {
+                match &self.session {
+                    $(Sized::$size(session) => session.leaving(c),)*
                 }
             };
         }
