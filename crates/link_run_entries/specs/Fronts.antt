@@ -20,6 +20,11 @@ front_text tick carrier tens = both_numbers tick carrier ++ tens_text tens
 abbrev pub rest_text : Option RawIq → List ℕ
 rest_text value = codes " " ++ value_text value ++ 10 ∷ []
 
+-- A tick and a space stand in the first octets.
+pub record IsTickText (tick : ℕ) (octets : List ℕ) (end : ℕ) : Type 0 where
+  pub is : take end octets ≡ decimal tick ++ codes " "
+  pub within : end ≤ 21
+
 -- The front of a line stands in the first octets, and the digits of the number begin at `start`.
 pub record IsFront (tick carrier tens : ℕ) (octets : List ℕ) (start end : ℕ) : Type 0 where
   pub both : take start octets ≡ both_numbers tick carrier

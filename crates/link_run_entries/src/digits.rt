@@ -403,7 +403,24 @@ fn put_six(octets: &mut [u8], at: usize, n: u32) -> usize
     put_group(octets, end, 2000 + (n % 1000) as usize)
 }
 
+// Lays a number out that has more than six digits as a rule.
+#[cold]
+#[inline(never)]
+fn put_long(octets: &mut [u8], at: usize, n: u64) -> usize
+    requires { at + 24 ≤ length octets.old }
+    ensures lays { Lays (decimal n) octets.old at octets.new result }
+    ensures short { result ≤ at + 20 }
+{
+    if n < 1_000_000 {
+        put_short(octets, at, n as u32)
+    } else {
+        let end = put_long(octets, at, n / 1_000_000);
+        put_six(octets, end, (n % 1_000_000) as u32)
+    }
+}
+
 /// Lays a number out as a canonical decimal.
+#[inline(always)]
 pub(crate) fn put_number(octets: &mut [u8], at: usize, n: u64) -> usize
     requires { at + 24 ≤ length octets.old }
     ensures lays { Lays (decimal n) octets.old at octets.new result }
@@ -412,25 +429,13 @@ pub(crate) fn put_number(octets: &mut [u8], at: usize, n: u64) -> usize
     if n < 1_000_000 {
         put_short(octets, at, n as u32)
     } else {
-        let end = put_number(octets, at, n / 1_000_000);
-        put_six(octets, end, (n % 1_000_000) as u32)
+        put_long(octets, at, n)
     }
 }
 
-// Lays a number of more than six digits out.
-#[cold]
-#[inline(never)]
-fn put_long(octets: &mut [u8], at: usize, n: u32) -> usize
-    requires { at + 24 ≤ length octets.old }
-    ensures lays { Lays (decimal n) octets.old at octets.new result }
-    ensures short { result ≤ at + 10 }
-{
-    put_number(octets, at, u64::from(n))
-}
-
-// Lays a number out that has six digits as a rule.
+/// Lays a number of 32 bits out as a canonical decimal.
 #[inline(always)]
-fn put_size(octets: &mut [u8], at: usize, n: u32) -> usize
+pub(crate) fn put_size(octets: &mut [u8], at: usize, n: u32) -> usize
     requires { at + 24 ≤ length octets.old }
     ensures lays { Lays (decimal n) octets.old at octets.new result }
     ensures short { result ≤ at + 10 }
@@ -438,7 +443,7 @@ fn put_size(octets: &mut [u8], at: usize, n: u32) -> usize
     if n < 1_000_000 {
         put_short(octets, at, n)
     } else {
-        put_long(octets, at, n)
+        put_long(octets, at, u64::from(n))
     }
 }
 

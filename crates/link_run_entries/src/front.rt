@@ -1,24 +1,61 @@
 // What the lines of a run have in common.
-ghost use Rattle.std.specs.Prelude.{◌≡◌, ◌+◌, ◌*◌, ◌^◌, ◌<◌, ◌≤◌, ◌++◌, ◌∷◌, [], length, take};
+ghost use Rattle.std.specs.Prelude.{◌≡◌, ◌+◌, ◌*◌, ◌^◌, ◌<◌, ◌≤◌, ◌++◌, ◌∷◌, [], codes, decimal, length, take};
 ghost use Rattle.link_text.specs.Laid.{Lays};
 ghost use Rattle.link_run_entries.specs.Groups.{digit};
-ghost use Rattle.link_run_entries.specs.Fronts.{both_numbers, tens_text, front_text, IsFront};
+ghost use Rattle.link_run_entries.specs.Fronts.{both_numbers, tens_text, front_text, IsFront, IsTickText};
 
-use crate::digits::put_number;
+use crate::digits::{put_number, put_size};
 use crate::store::{put_octet, store};
+
+/// How many octets a tick is stored with.
+const TICK: usize = 32;
 
 /// How many octets a front is stored with.
 const FRONT: usize = 64;
 
+/// A tick as text, for the lines of all samples that leave at it.
+#[derive(Drop)]
+pub struct TickText {
+    tick: u64,
+    // its digits and a space, in front of other octets
+    octets: [u8; TICK],
+    // where the space ends
+    end: usize,
+    ghost stands: { IsTickText tick octets end },
+}
+
+impl TickText {
+    /// That of a tick.
+    pub fn new(tick: u64) -> TickText
+        ensures { result.tick ≡ tick }
+    {
+        let mut octets = [0; TICK];
+        let end = put_number(&mut octets, 0, tick);
+        let end = put_octet(&mut octets, end, b' ');
+        TickText { tick, octets, end }
+    }
+}
+
+// Lays a tick out.
+#[inline(always)]
+fn put_tick(octets: &mut [u8], at: usize, tick: &TickText) -> usize
+    requires { at + 32 ≤ length octets.old }
+    ensures lays { Lays (decimal tick.now.tick ++ codes " ") octets.old at octets.new result }
+    ensures short { result ≤ at + 21 }
+{
+    store(octets, at, tick.octets);
+    at + tick.end
+}
+
 // Lays the tick and the carrier out, and says where they end.
-fn put_both(octets: &mut [u8], tick: u64, carrier: u32) -> usize
+#[inline(always)]
+fn put_both(octets: &mut [u8], tick: &TickText, carrier: u32) -> usize
     requires { 64 ≤ length octets.old }
-    ensures lays { Lays (both_numbers tick carrier) octets.old 0 octets.new result }
+    ensures lays { Lays (both_numbers tick.now.tick carrier) octets.old 0 octets.new result }
     ensures short { result ≤ 32 }
 {
-    let end = put_number(octets, 0, tick);
-    let end = put_octet(octets, end, b' ');
-    let end = put_number(octets, end, u64::from(carrier));
+    let end = put_tick(octets, 0, tick);
+    let end = put_size(octets, end, carrier);
     put_octet(octets, end, b' ')
 }
 
@@ -54,8 +91,8 @@ pub(crate) struct Front {
 
 impl Front {
     /// That of a number.
-    pub(crate) fn new(tick: u64, carrier: u32, number: u64) -> Front
-        ensures tick { result.tick ≡ tick }
+    pub(crate) fn new(tick: &TickText, carrier: u32, number: u64) -> Front
+        ensures tick { result.tick ≡ tick.now.tick }
         ensures carrier { result.carrier ≡ carrier }
         ensures number { 10 * result.tens + result.last ≡ number }
     {
@@ -64,7 +101,7 @@ impl Front {
         let tens = number / 10;
         let end = put_tens(&mut octets, start, tens);
         Front {
-            tick,
+            tick: tick.tick,
             carrier,
             tens,
             last: (number % 10) as u8,

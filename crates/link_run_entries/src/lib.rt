@@ -6,6 +6,7 @@ mod front;
 mod run;
 mod store;
 
+pub use front::TickText;
 pub use run::{ROOM, put_run};
 
 #[cfg(test)]

@@ -7,7 +7,7 @@ ghost use Rattle.link_run_entries.specs.Fronts.{rest_text};
 ghost use Rattle.link_run_entries.specs.SampleLines.{sample_line, run_lines};
 
 use crate::digits::put_value;
-use crate::front::Front;
+use crate::front::{Front, TickText};
 use crate::store::{put_octet, store};
 use link_text::{Lay, TextBuffer};
 use sample_bits::RawIq;
@@ -93,7 +93,7 @@ fn is_marked(marks: u32, i: usize) -> bool
 // A run of samples, which has text.
 #[derive(Drop)]
 struct Run<'a> {
-    tick: u64,
+    tick: &'a TickText,
     carrier: u32,
     number: u64,
     samples: &'a [RawIq],
@@ -106,7 +106,7 @@ impl Run<'_> {
     // Lays the lines out where no sample is marked.
     fn lay_samples(&self, octets: &mut [u8], at: usize) -> usize
         requires { at + 2560 ≤ length octets.old }
-        ensures { Lays (run_lines self.now.tick self.now.carrier self.now.number 0 self.now.samples.now (length self.now.samples.now)) octets.old at octets.new result }
+        ensures { Lays (run_lines self.now.tick.now.tick self.now.carrier self.now.number 0 self.now.samples.now (length self.now.samples.now)) octets.old at octets.new result }
     {
         let mut front = Front::new(self.tick, self.carrier, self.number);
         let mut end = at;
@@ -120,7 +120,7 @@ impl Run<'_> {
     // Lays the lines out where a sample may be marked.
     fn lay_marked(&self, octets: &mut [u8], at: usize) -> usize
         requires { at + 2560 ≤ length octets.old }
-        ensures { Lays (run_lines self.now.tick self.now.carrier self.now.number self.now.marks self.now.samples.now (length self.now.samples.now)) octets.old at octets.new result }
+        ensures { Lays (run_lines self.now.tick.now.tick self.now.carrier self.now.number self.now.marks self.now.samples.now (length self.now.samples.now)) octets.old at octets.new result }
     {
         let mut front = Front::new(self.tick, self.carrier, self.number);
         let mut end = at;
@@ -136,13 +136,15 @@ impl Lay for Run<'_> {
     ghost use Rattle.std.specs.Prelude.{length};
     ghost use Rattle.link_run_entries.specs.SampleLines.{run_lines};
 
-    ghost text = { λ run. run_lines run.tick run.carrier run.number run.marks run.samples.now (length run.samples.now) };
+    ghost text = { λ run. run_lines run.tick.now.tick run.carrier run.number run.marks run.samples.now (length run.samples.now) };
 
     ghost room = { λ _. 2560 };
 
     #[inline]
     fn lay(&self, octets: &mut [u8], at: usize) -> usize {
-        if self.marks == 0 {
+        if self.samples.is_empty() {
+            at
+        } else if self.marks == 0 {
             self.lay_samples(octets, at)
         } else {
             self.lay_marked(octets, at)
@@ -154,7 +156,7 @@ impl Lay for Run<'_> {
 /// bit i of `marks` is 1.
 pub fn put_run(
     text: &mut TextBuffer,
-    tick: u64,
+    tick: &TickText,
     carrier: u32,
     number: u64,
     samples: &[RawIq],
@@ -163,7 +165,7 @@ pub fn put_run(
     requires room { length text.old + 2560 ≤ text_capacity }
     requires samples { length samples.now ≤ 32 }
     requires numbers { number + length samples.now < 2 ^ 64 }
-    ensures { text.new ≡ text.old ++ run_lines tick carrier number marks samples.now (length samples.now) }
+    ensures { text.new ≡ text.old ++ run_lines tick.now.tick carrier number marks samples.now (length samples.now) }
 {
     text.put_laid(&Run {
         tick,

@@ -1,5 +1,5 @@
 //! Runs of samples and their lines.
-use crate::put_run;
+use crate::{TickText, put_run};
 use link_base::MemSink;
 use link_text::TextBuffer;
 use sample_bits::RawIq;
@@ -93,7 +93,14 @@ fn runs_are_printed(rt: HostRuntime) -> Result<(), Fail> {
         let mut text = TextBuffer::new();
         let mut out = MemSink::new(rt.alloc(), 4096, 4096)?;
         if samples.len() <= 32 && number < 1 << 63 {
-            put_run(&mut text, tick, carrier, number, samples, marks);
+            put_run(
+                &mut text,
+                &TickText::new(tick),
+                carrier,
+                number,
+                samples,
+                marks,
+            );
         }
         text.flush(&mut out)?;
         assert_eq!(rt; out.octets(), lines);

@@ -11,7 +11,7 @@ loop-i-init c =
       carrier = c.new-front.ensures.carrier;
       number = omega arith;
       short = omega arith;
-      lays = lays_as _ _ _ _ _ _ (no_lines run.tick run.carrier run.number run.marks run.samples.now) (lays_none c.args.octets.now c.args.at (omega arith));
+      lays = lays_as _ _ _ _ _ _ (no_lines run.tick.now.tick run.carrier run.number run.marks run.samples.now) (lays_none c.args.octets.now c.args.at (omega arith));
     }
 
 pub loop-i-preserved : goal.loop-i-preserved
@@ -25,6 +25,6 @@ loop-i-preserved c =
       number = omega arith;
       short = omega arith;
       lays =
-          run_more run.tick run.carrier run.number run.marks run.samples.now c.loop-i.i _ _ _ _ _ _ _ _ _ _ before.lays line before.tick before.carrier before.number
+          run_more run.tick.now.tick run.carrier run.number run.marks run.samples.now c.loop-i.i _ _ _ _ _ _ _ _ _ _ before.lays line before.tick before.carrier before.number
           (value_of_marks run.marks run.samples.now c.loop-i.i c.is_marked.result _ c.is_marked.ensures (slice_get-get_or run.samples.now c.loop-i.i (record { i = pos 0; q = pos 0 }) c.loop-i-test.true));
     }

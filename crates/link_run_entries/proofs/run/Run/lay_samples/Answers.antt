@@ -11,7 +11,7 @@ loop-sample-init c =
       carrier = c.new-front.ensures.carrier;
       number = omega arith;
       short = omega arith;
-      lays = lays_as _ _ _ _ _ _ (no_lines run.tick run.carrier run.number 0 run.samples.now) (lays_none c.args.octets.now c.args.at (omega arith));
+      lays = lays_as _ _ _ _ _ _ (no_lines run.tick.now.tick run.carrier run.number 0 run.samples.now) (lays_none c.args.octets.now c.args.at (omega arith));
     }
 
 pub loop-sample-preserved : goal.loop-sample-preserved
@@ -25,6 +25,6 @@ loop-sample-preserved c =
       number = omega arith;
       short = omega arith;
       lays =
-          run_more run.tick run.carrier run.number 0 run.samples.now c.loop-sample.sample-index _ _ _ _ _ _ _ _ _ _ before.lays line before.tick before.carrier before.number
+          run_more run.tick.now.tick run.carrier run.number 0 run.samples.now c.loop-sample.sample-index _ _ _ _ _ _ _ _ _ _ before.lays line before.tick before.carrier before.number
           (value_unmarked run.samples.now c.loop-sample.sample-index _ (slice_get-get_or run.samples.now c.loop-sample.sample-index (record { i = pos 0; q = pos 0 }) c.loop-sample-test.true));
     }

@@ -6,9 +6,9 @@ use Rattle.link_run_entries.proofs.run.Run.lay_samples.Given as goal
 -- the lines of the samples so far, and the front of the next one
 abbrev pub invariant-loop-sample : goal.invariant-loop-sample
 invariant-loop-sample l = record {
-  tick : l.front.tick ≡ l.self.tick;
+  tick : l.front.tick ≡ l.self.tick.now.tick;
   carrier : l.front.carrier ≡ l.self.carrier;
   number : 10 * l.front.tens + l.front.last ≡ l.self.number + l.sample-index;
   short : l.end ≤ l.at + 78 * l.sample-index;
-  lays : Lays (run_lines l.self.tick l.self.carrier l.self.number 0 l.self.samples.now l.sample-index) l.initial.octets l.at l.octets l.end;
+  lays : Lays (run_lines l.self.tick.now.tick l.self.carrier l.self.number 0 l.self.samples.now l.sample-index) l.initial.octets l.at l.octets l.end;
 }
