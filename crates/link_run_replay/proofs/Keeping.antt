@@ -56,11 +56,11 @@ step_of_many s line r is ordered full =
 
 -- a record at a tick of the run came
 pub taken_early : (session after : SessionView) (s : Replayed) (r : Record) (lines_left lines_left' : ℕ) → IsPlayedTo session r.tick s → s.tick ≤ r.tick → r.tick < last_tick s
-    → after.plan ≡ session.plan → after.frames ≡ session.frames → after.tick ≡ session.tick → after.listed ≡ session.listed
+    → after.plan ≡ session.plan → after.frames ≡ session.frames → after.tick ≡ session.tick
     → ((records : List Record) → StandsFor session records → StandsFor after (records ++ record { tick = session.tick; octets = r.octets } ∷ []))
     → lines_left' + 1 ≡ lines_left → lines_left + length s.records ≡ most_records
     → KeepsRun after r.tick lines_left' (with_record s r)
-taken_early session after s r lines_left lines_left' played ordered within same_plan same_frames same_tick same_listed stands less few =
+taken_early session after s r lines_left lines_left' played ordered within same_plan same_frames same_tick stands less few =
     let here : session.tick ≡ r.tick = omega (arith, played.now) in
     let none : played.late ≡ [] = played.none_late (omega arith) in
     let all : s.records ≡ played.early = played.records ∙ ap (λ late. played.early ++ late) none ∙ append-nil played.early in record {
@@ -68,7 +68,6 @@ taken_early session after s r lines_left lines_left' played ordered within same_
         plan = same_plan ∙ played.plan;
         run = same_frames ∙ played.run;
         good = played.good;
-        listed = subst (λ (b : Bool). IsTrue b) (sym same_listed) played.listed;
         now = same_tick ∙ played.now;
         early = played.early ++ r ∷ [];
         late = [];
@@ -90,7 +89,6 @@ taken_late session s r lines_left lines_left' played beyond less few = record {
     plan = played.plan;
     run = played.run;
     good = played.good;
-    listed = played.listed;
     now = played.now;
     early = played.early;
     late = played.late ++ r ∷ [];
@@ -105,13 +103,12 @@ taken_late session s r lines_left lines_left' played beyond less few = record {
 
 -- play went on to a tick
 pub played_to : (session after : SessionView) (s : Replayed) (tick : ℕ) → IsPlayedTo session s.tick s → s.tick ≤ tick
-    → after.plan ≡ session.plan → after.frames ≡ session.frames → (IsTrue session.listed → IsTrue after.listed) → after.tick ≡ min tick (last_tick s)
+    → after.plan ≡ session.plan → after.frames ≡ session.frames → after.tick ≡ min tick (last_tick s)
     → ((records : List Record) → StandsFor session records → StandsFor after records) → IsPlayedTo after tick s
-played_to session after s tick played ordered same_plan same_frames lists now stands = record {
+played_to session after s tick played ordered same_plan same_frames now stands = record {
   plan = same_plan ∙ played.plan;
   run = same_frames ∙ played.run;
   good = played.good;
-  listed = lists played.listed;
   now = now;
   early = played.early;
   late = played.late;
@@ -171,13 +168,13 @@ module _ (session : SessionView) (s : Replayed) (latest lines_left : ℕ) (repla
       ∙ ap entry_lines (text_same session s (min tick (last_tick s)) within replay.played)
 
   pub next_played : (after : SessionView) (ticks end : ℕ) → ticks ≡ ticks_of_run session.plan session.frames → end ≡ min tick ticks
-      → after.plan ≡ session.plan → after.frames ≡ session.frames → (IsTrue session.listed → IsTrue after.listed) → (session.tick ≤ end → after.tick ≡ end)
+      → after.plan ≡ session.plan → after.frames ≡ session.frames → (session.tick ≤ end → after.tick ≡ end)
       → ((records : List Record) → StandsFor session records → StandsFor after records) → IsPlayedTo after tick s
-  next_played after ticks end is end_is same_plan same_frames lists at stands =
+  next_played after ticks end is end_is same_plan same_frames at stands =
       let last = last_same session s s.tick ticks replay.played is in
       let to : end ≡ min tick (last_tick s) = end_is ∙ ap (min tick) last in
       let ahead : session.tick ≤ end = omega (arith, replay.played.now, next_ordered) in
-      played_to session after s tick replay.played next_ordered same_plan same_frames lists (at ahead ∙ to) stands
+      played_to session after s tick replay.played next_ordered same_plan same_frames (at ahead ∙ to) stands
 
 -- What is left is written: the samples, the flows, and the last line.
 pub closing_text : (session : SessionView) (s : Replayed) (ticks : ℕ) → (played : IsPlayedTo session s.tick s) → ticks ≡ ticks_of_run session.plan session.frames
@@ -190,16 +187,15 @@ closing_text session s ticks played is =
     ∙ ap entry_lines (text_same session s (min (last_tick s) (last_tick s)) within played)
 
 pub played_on : (session after : SessionView) (s : Replayed) (ticks : ℕ) → IsPlayedTo session s.tick s → ticks ≡ ticks_of_run session.plan session.frames
-    → after.plan ≡ session.plan → after.frames ≡ session.frames → (IsTrue session.listed → IsTrue after.listed) → (session.tick ≤ ticks → after.tick ≡ ticks)
+    → after.plan ≡ session.plan → after.frames ≡ session.frames → (session.tick ≤ ticks → after.tick ≡ ticks)
     → ((records : List Record) → StandsFor session records → StandsFor after records) → IsPlayedTo after (last_tick s) s
-played_on session after s ticks played is same_plan same_frames lists at stands =
+played_on session after s ticks played is same_plan same_frames at stands =
     let last = last_same session s s.tick ticks played is in
     let ahead : session.tick ≤ ticks = omega (arith, played.now, last) in
     let now : after.tick ≡ min (last_tick s) (last_tick s) = omega (arith, at ahead, last) in record {
       plan = same_plan ∙ played.plan;
       run = same_frames ∙ played.run;
       good = played.good;
-      listed = lists played.listed;
       now = now;
       early = played.early;
       late = played.late;

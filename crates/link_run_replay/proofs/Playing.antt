@@ -1,20 +1,26 @@
 -- The entries that leave at some ticks, one tick after another, and their lines.
-use Rattle.std.proofs.Common.{inl, inr, ◌≡◌, ◌∙◌, ◌+◌, ◌-◌, ◌≤◌, ◌<◌, ◌++◌, [], ℕ, List, length, Option, Some, None, sym, ap, subst, refl, arith, add-one, append_assoc, append-nil}
+use Rattle.std.proofs.Common.{inl, inr, ◌≡◌, ◌∙◌, ◌+◌, ◌-◌, ◌≤◌, ◌<◌, ◌==◌, if◌then◌else◌, ◌++◌, ◌∷◌, [], ℕ, List, length, Option, Some, None, sym, ap, subst, refl, arith, pos, add-one, append_assoc, append-nil}
 use Rattle.std.specs.Prelude.{slice_get}
 use Rattle.std.specs.List.{flat_map, range_with_len}
+use Rattle.std.specs.Int.{bit_at}
 use Rattle.std.proofs.lemmas.List.Concat.{flat_map-append}
+use Rattle.std.proofs.lemmas.List.Folds.{flat_map-map}
 use Rattle.std.proofs.lemmas.Bool.{cases_lt}
-use Rattle.std.proofs.lemmas.Option.{slice_get_cases}
+use Rattle.std.proofs.lemmas.Option.{slice_get_cases, slice_get-get_or}
 use Rattle.link_base.specs.Sink.{Taken, AppendsFront}
 use Rattle.carrier_plan.specs.declared.plan.Flow.{Flow}
 use Rattle.carrier_plan.specs.declared.plan.Plan.{Plan}
 use Rattle.plan_checker.specs.Packets.{run_packets}
-use Rattle.link_receiver.specs.Output.{entries_at, entries_before}
+use Rattle.link_receiver.specs.Output.{entries_at, entries_of}
+use Rattle.link_receiver.specs.Runs.{entries_of_before, entries_of_run, entry_of_run}
 use Rattle.link_receiver.specs.Received.{taken}
 use Rattle.link_base.specs.Record.{Record}
 use Rattle.link_text.specs.Gathered.{Gathers, BreaksOff}
 use Rattle.link_run_replay.specs.EntryLines.{entry_lines, entry_line, entries_between, flow_line, line_of_flow}
+use Rattle.link_run_entries.specs.SampleLines.{run_lines, sample_line, value_of_run}
+use Rattle.sample_bits.specs.declared.iq.RawIq.{RawIq}
 use Rattle.link_text.proofs.GatheredLines.{range_split}
+use Rattle.link_receiver.proofs.Ranges.{flat_map-range}
 use Rattle.link_text.proofs.Gathering.{gathers_none, gathers_then, breaks_then, front_of_more}
 
 module _ (p : Plan) (h : ℕ) (records : List Record) where
@@ -84,12 +90,37 @@ module _ (p : Plan) (h : ℕ) (records : List Record) where
         subst (λ es. Gathers (entry_lines es) hand old hand1 new) (between_none from now here ∙ sym (between_none from to beyond)) gathers
   ]
 
--- the entries of the tick before the present one
-pub entries_of_last : (p p' : Plan) (h h' : ℕ) (records : List Record) (tick tick' : ℕ) → p' ≡ p → h' ≡ h → tick' ≡ tick + 1
-    → entries_before p' h' records tick' ≡ entries_at p h records tick
-entries_of_last p p' h h' records tick tick' same_plan same_frames next =
-    ap (λ p. entries_before p h' records tick') same_plan ∙ ap (λ h. entries_before p h records tick') same_frames
-    ∙ ap (entries_before p h records) (next ∙ add-one tick)
+-- the items of lists, one list after another
+flat_map-lists : {X Y Z : Type 0} (f : Y → List Z) (g : X → List Y) (xs : List X) → flat_map f (flat_map g xs) ≡ flat_map (λ x. flat_map f (g x)) xs
+flat_map-lists f g [] = refl
+flat_map-lists f g (x ∷ xs) = flat_map-append f (g x) (flat_map g xs) ∙ ap (λ ys. flat_map f (g x) ++ ys) (flat_map-lists f g xs)
+
+-- the lines of a tick, carrier by carrier
+pub lines_at : (p : Plan) (h : ℕ) (records : List Record) (tick : ℕ)
+    → entry_lines (entries_at p h records tick) ≡ flat_map (λ c. entry_lines (entries_of p h records tick c)) (range_with_len 0 (length p.carriers))
+unfolding entries_at
+lines_at p h records tick = flat_map-lists entry_line (entries_of p h records tick) (range_with_len 0 (length p.carriers))
+
+-- the lines of the samples of a carrier, by their entries
+run_printed : (tick c number marks : ℕ) (samples : List RawIq)
+    → run_lines tick c number marks samples (length samples) ≡ entry_lines (entries_of_run tick c number marks samples (length samples))
+unfolding run_lines
+run_printed tick c number marks samples =
+    let nothing : RawIq = record { i = pos 0; q = pos 0 } in
+    flat_map-range (λ i. sample_line tick c (number + i) (value_of_run marks samples i)) (λ i. entry_line (entry_of_run tick c number marks samples i)) 0 (length samples)
+    (λ i less. let here : 0 + i < length samples = omega arith in
+    ap (λ v. sample_line tick c (number + (0 + i)) (if bit_at marks (0 + i) == 1 then None else v)) (slice_get-get_or samples (0 + i) nothing here))
+    ∙ sym (flat_map-map entry_line (entry_of_run tick c number marks samples) (range_with_len 0 (length samples)))
+
+-- the lines of the samples of a carrier that left at the tick before the present one
+pub carrier_printed : (p : Plan) (h : ℕ) (records : List Record) (now tick c number marks : ℕ) (samples : List RawIq) → now ≡ tick + 1
+    → entries_of_run (now - 1) c number marks samples (length samples) ≡ entries_of_before p h records now c
+    → run_lines tick c number marks samples (length samples) ≡ entry_lines (entries_of p h records tick c)
+carrier_printed p h records now tick c number marks samples next lent =
+    let before : tick ≡ now - 1 = omega arith in
+    run_printed tick c number marks samples
+    ∙ ap (λ t. entry_lines (entries_of_run t c number marks samples (length samples))) before
+    ∙ ap entry_lines (lent ∙ ap (λ t. entries_of_before p h records t c) (next ∙ add-one tick))
 
 -- the line of a flow by what was counted of it
 module _ (p : Plan) (h : ℕ) (records : List Record) (place got packets : ℕ) where

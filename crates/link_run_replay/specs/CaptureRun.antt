@@ -7,12 +7,11 @@ use Rattle.link_run_capture.specs.Capture.{most_records, record_of}
 use Rattle.link_run_replay.specs.Replayed.{Replayed, last_tick}
 
 -- The session was handed the records at ticks of the run, which are the first ones, and was played as far as below this
--- tick. It lists what leaves.
+-- tick.
 pub record IsPlayedTo (session : SessionView) (tick : ℕ) (s : Replayed) : Type 0 where
   pub plan : session.plan ≡ s.plan
   pub run : session.frames ≡ s.run_ticks
   pub good : IsGood s.plan
-  pub listed : IsTrue session.listed
   pub now : session.tick ≡ min tick (last_tick s)
   pub early : List Record
   pub late : List Record

@@ -1,26 +1,19 @@
 -- The samples that leave and the counts of the flows, in the text that is printed of them. The text is this project's own.
 use Rattle.std.specs.Prelude.{codes, decimal, ℕ, ◌-◌, List, [], ◌∷◌, ◌++◌, length, slice_get, Option, Some, None}
-use Rattle.std.specs.Fmt.{signed_decimal}
 use Rattle.std.specs.List.{flat_map, range_with_len}
 use Rattle.carrier_plan.specs.declared.plan.Flow.{Flow}
 use Rattle.carrier_plan.specs.declared.plan.Plan.{Plan}
 use Rattle.plan_checker.specs.Packets.{run_packets}
-use Rattle.sample_bits.specs.declared.iq.RawIq.{RawIq}
 use Rattle.link_base.specs.Record.{Record}
 use Rattle.link_receiver.specs.declared.entry.Entry.{Entry}
 use Rattle.link_receiver.specs.Output.{entries_at}
 use Rattle.link_receiver.specs.Received.{taken}
 use Rattle.link_text.specs.Printed.{lines_below}
+use Rattle.link_run_entries.specs.SampleLines.{sample_line}
 
--- a sample, or the mark in its place
-abbrev pub value_text : Option RawIq → List ℕ
-value_text None = codes "-"
-value_text (Some sample) = signed_decimal sample.i ++ codes " " ++ signed_decimal sample.q
-
--- a sample as it leaves: its tick, its carrier and its number, and the sample
-unfoldable pub entry_line : Entry → List ℕ
-entry_line entry =
-    decimal entry.tick ++ codes " " ++ decimal entry.carrier ++ codes " " ++ decimal entry.number ++ codes " " ++ value_text entry.value ++ 10 ∷ []
+-- a sample as it leaves
+abbrev pub entry_line : Entry → List ℕ
+entry_line entry = sample_line entry.tick entry.carrier entry.number entry.value
 
 abbrev pub entry_lines : List Entry → List ℕ
 entry_lines entries = flat_map entry_line entries

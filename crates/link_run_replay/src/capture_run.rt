@@ -24,6 +24,8 @@ pub struct CaptureRun {
     session: AnySession,
     /// The ticks in which the run is played.
     ticks: u64,
+    /// The carriers of the plan.
+    carriers: u32,
     /// The flows of the plan.
     flows: usize,
     /// The tick of the last record.
@@ -33,6 +35,7 @@ pub struct CaptureRun {
     /// The octets of the last record, at the front.
     octets: [u8; MOST_OCTETS],
     ghost of_run: { ticks ≡ ticks_of_run session.plan session.frames },
+    ghost of_carriers: { carriers ≡ length session.plan.carriers },
     ghost of_plan: { flows ≡ length session.plan.flows },
 }
 
@@ -46,6 +49,7 @@ impl CaptureRun {
         Ok(CaptureRun {
             session: AnySession::begin(alloc, checked, run_ticks)?,
             ticks: checked.ticks(run_ticks),
+            carriers: carriers_of(checked),
             flows: checked.plan().flows.len(),
             tick: 0,
             lines_left: MOST_RECORDS,
@@ -89,6 +93,13 @@ impl CaptureRun {
         self.tick = arrival.tick;
         self.lines_left -= 1;
     }
+}
+
+// How many carriers the plan has.
+fn carriers_of(checked: &Checked) -> u32
+    ensures { result ≡ length checked.now.carriers }
+{
+    checked.plan().carriers.len() as u32
 }
 
 impl Feed for CaptureRun {
@@ -135,7 +146,8 @@ impl Feed for CaptureRun {
             Ok(arrival) => arrival,
             Err(reason) => return Ok(Reading::Bad(reason)),
         };
-        match play_to(&mut self.session, arrival.tick.min(self.ticks), text, out) {
+        let end = arrival.tick.min(self.ticks);
+        match play_to(&mut self.session, self.carriers, end, text, out) {
             Ok(()) => {
                 self.take(arrival);
                 Ok(Reading::Good)
@@ -145,7 +157,7 @@ impl Feed for CaptureRun {
     }
 
     fn close<K: Sink>(&mut self, text: &mut TextBuffer, out: &mut K) -> Result<(), Failed> {
-        play_to(&mut self.session, self.ticks, text, out)?;
+        play_to(&mut self.session, self.carriers, self.ticks, text, out)?;
         put_flows(&self.session, self.flows, text, out)?;
         text.make_room(LINE, out)?;
         text.put(b"end\n");

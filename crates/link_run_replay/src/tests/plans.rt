@@ -4,6 +4,15 @@ use super::*;
 /// Samples in blocks of two basic frames.
 const BLOCKS: Change<'static> = ("k = 1\nm = 8", "k = 2\nm = 15");
 
+/// The packets of (1, -1) and (16383, -16384), each in the containers of two basic frames, but for the second of the first.
+const PACKET_OF_A_BLOCK_MISSED: [Record<'static>; 5] = [
+    (0, "020000000001020000000002fc3d0207001000000000bc0000"),
+    (1, "020000000001020000000002fc3d0207001000000001000000"),
+    (2, "020000000001020000000002fc3d020700100000000201abaa"),
+    (4, "020000000001020000000002fc3d0207001000010000005555"),
+    (5, "020000000001020000000002fc3d0207001000010001005525"),
+];
+
 /// Three samples in a block of two basic frames.
 const THREE_IN_A_BLOCK: Change<'static> = (
     "s = 1\nk = 1\nm = 8\nstart = 0\nsize = 16",
@@ -63,7 +72,7 @@ const TUNNEL: [Record<'static>; 3] = [
     ),
 ];
 
-const ROWS_BY_PLAN: [Row<'static>; 8] = [
+const ROWS_BY_PLAN: [Row<'static>; 9] = [
     (
         &[("option = 1", "option = 2")],
         1,
@@ -78,6 +87,12 @@ const ROWS_BY_PLAN: [Row<'static>; 8] = [
             (3, "020000000001020000000002fc3d020700100000000300aa2a"),
         ],
         "5 0 0 1 -1\n7 0 1 -\nflow 0 taken 2 missed 4\nend\n",
+    ),
+    (
+        &[BLOCKS],
+        4,
+        &PACKET_OF_A_BLOCK_MISSED,
+        "5 0 0 -\n7 0 1 16383 -16384\nflow 0 taken 5 missed 1\nend\n",
     ),
     (
         &[THREE_IN_A_BLOCK],

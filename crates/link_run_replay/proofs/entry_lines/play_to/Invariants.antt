@@ -1,4 +1,4 @@
-use Rattle.std.proofs.Common.{IsTrue, ◌≡◌, ◌≤◌, ◌-◌, List}
+use Rattle.std.proofs.Common.{◌≡◌, ◌≤◌, ◌-◌, List}
 use Rattle.link_base.specs.Record.{Record}
 use Rattle.link_receiver.specs.Sessions.{StandsFor}
 use Rattle.link_text.specs.Gathered.{Gathers}
@@ -10,7 +10,6 @@ abbrev pub invariant-loop-session : goal.invariant-loop-session
 invariant-loop-session g l = record {
   plan : l.session.plan ≡ l.initial.session.plan;
   frames : l.session.frames ≡ l.initial.session.frames;
-  listed : IsTrue l.initial.session.listed → IsTrue l.session.listed;
   later : l.initial.session.tick ≤ l.session.tick;
   ahead : l.initial.session.tick ≤ l.end → l.session.tick ≤ l.end;
   stays : l.end ≤ l.initial.session.tick → l.session.tick ≡ l.initial.session.tick;

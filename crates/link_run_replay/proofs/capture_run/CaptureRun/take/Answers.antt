@@ -18,6 +18,6 @@ returns-clause-stands c = λ s played ordered few.
       | then-arrival-self w ↦
           let arrived = w.arrive.ensures in
           rw w.self-is
-          (taken_early session w.arrive.new.self s r left (left - 1) played ordered (omega (arith, w.if-arrival-self.true, last)) arrived.plan arrived.frames arrived.tick arrived.listed arrived.stands less few)
+          (taken_early session w.arrive.new.self s r left (left - 1) played ordered (omega (arith, w.if-arrival-self.true, last)) arrived.plan arrived.frames arrived.tick arrived.stands less few)
       | else-arrival-self w ↦ rw w.self-is (taken_late session s r left (left - 1) played (omega (arith, w.if-arrival-self.false, last)) less few)
     ]

@@ -28,7 +28,7 @@ returns-in_err-put_flows-clause-fails g c =
     let after = c.play_to.new.session in
     let is : now.ticks ≡ ticks_of_run now.session.plan now.session.frames = now.of_run in
     let so_far = c.in_ok-play_to.ensures in
-    let played : IsPlayedTo after (last_tick s) s = played_on now.session after s now.ticks replay.played is so_far.plan so_far.frames so_far.listed so_far.tick so_far.stands in
+    let played : IsPlayedTo after (last_tick s) s = played_on now.session after s now.ticks replay.played is so_far.plan so_far.frames so_far.tick so_far.stands in
     breaks_second (text_below s (last_tick s)) (flow_lines s.plan s.run_ticks s.records) (ended (codes "end")) c.args.text.now c.play_to.new.text (taken c.args.out.now) (taken c.play_to.new.out)
     (taken c.put_flows.new.out)
     (subst (λ (text : List ℕ). Gathers text c.args.text.now (taken c.args.out.now) c.play_to.new.text (taken c.play_to.new.out)) (closing_text now.session s now.ticks replay.played is)
@@ -44,7 +44,7 @@ returns-in_err-make_room-clause-fails g c =
     let after = c.play_to.new.session in
     let is : now.ticks ≡ ticks_of_run now.session.plan now.session.frames = now.of_run in
     let so_far = c.in_ok-play_to.ensures in
-    let played : IsPlayedTo after (last_tick s) s = played_on now.session after s now.ticks replay.played is so_far.plan so_far.frames so_far.listed so_far.tick so_far.stands in
+    let played : IsPlayedTo after (last_tick s) s = played_on now.session after s now.ticks replay.played is so_far.plan so_far.frames so_far.tick so_far.stands in
     breaks_third (text_below s (last_tick s)) (flow_lines s.plan s.run_ticks s.records) (ended (codes "end")) c.args.text.now c.play_to.new.text (taken c.args.out.now) (taken c.play_to.new.out)
     c.put_flows.new.text (taken c.put_flows.new.out) (taken c.make_room.new.out)
     (subst (λ (text : List ℕ). Gathers text c.args.text.now (taken c.args.out.now) c.play_to.new.text (taken c.play_to.new.out)) (closing_text now.session s now.ticks replay.played is)
@@ -60,7 +60,7 @@ returns-clause-closes g c = λ s replay may.
     let after = c.play_to.new.session in
     let is : now.ticks ≡ ticks_of_run now.session.plan now.session.frames = now.of_run in
     let so_far = c.in_ok-play_to.ensures in
-    let played : IsPlayedTo after (last_tick s) s = played_on now.session after s now.ticks replay.played is so_far.plan so_far.frames so_far.listed so_far.tick so_far.stands in
+    let played : IsPlayedTo after (last_tick s) s = played_on now.session after s now.ticks replay.played is so_far.plan so_far.frames so_far.tick so_far.stands in
     gathers_all (text_below s (last_tick s)) (flow_lines s.plan s.run_ticks s.records) (ended (codes "end")) c.args.text.now c.play_to.new.text (taken c.args.out.now) (taken c.play_to.new.out)
     c.put_flows.new.text c.make_room.new.self c.put.new.self (taken c.put_flows.new.out) (taken c.make_room.new.out)
     (subst (λ (text : List ℕ). Gathers text c.args.text.now (taken c.args.out.now) c.play_to.new.text (taken c.play_to.new.out)) (closing_text now.session s now.ticks replay.played is)

@@ -25,11 +25,11 @@ returns-in-Ok-play_to-clause-reads g c = λ s replay.
       text_below s tick,
       next_is now.session s before.tick before.lines_left here c.args.line.now octets tick next,
       c.take.ensures.stands s
-          (next_played now.session s before.tick before.lines_left here c.args.line.now octets tick next c.play_to.new.session now.ticks c.min.result is c.min.ensures
-          played.plan played.frames played.listed played.tick played.stands)
+          (next_played now.session s before.tick before.lines_left here c.args.line.now octets tick next c.play_to.new.session now.ticks c.min-end.result is c.min-end.ensures
+          played.plan played.frames played.tick played.stands)
           (next_ordered now.session s before.tick before.lines_left here c.args.line.now octets tick next) few,
       subst (λ (text : List ℕ). Gathers text c.args.text.now (taken c.args.out.now) c.play_to.new.text (taken c.play_to.new.out))
-          (next_text now.session s before.tick before.lines_left here c.args.line.now octets tick next now.ticks c.min.result is c.min.ensures)
+          (next_text now.session s before.tick before.lines_left here c.args.line.now octets tick next now.ticks c.min-end.result is c.min-end.ensures)
           (played.puts here.played.early here.played.stands),
     )
 
@@ -48,6 +48,6 @@ returns-in-Err-play_to-clause-fails g c = λ s replay.
       text_below s tick,
       next_is now.session s before.tick before.lines_left here c.args.line.now octets tick next,
       subst (λ (text : List ℕ). BreaksOff text c.args.text.now (taken c.args.out.now) (taken c.play_to.new.out))
-          (next_text now.session s before.tick before.lines_left here c.args.line.now octets tick next now.ticks c.min.result is c.min.ensures)
+          (next_text now.session s before.tick before.lines_left here c.args.line.now octets tick next now.ticks c.min-end.result is c.min-end.ensures)
           (c.in-Err-play_to.ensures.fails here.played.early here.played.stands),
     )
