@@ -1,7 +1,7 @@
 -- Digits that are read with digits 0 behind them.
-use Rattle.std.proofs.Common.{◌≡◌, ◌↔◌, ℕ, suc, ◌+◌, ◌*◌, ◌/◌, ◌%◌, ◌<◌, Bool, true, false, List, [], ◌∷◌, ◌++◌, length, take, drop, replicate, refl, sym, ◌∙◌, ap, arith, length-append, Option, Some, None, Result, Ok, Err}
+use Rattle.std.proofs.Common.{◌≡◌, ℕ, suc, ◌+◌, ◌/◌, ◌%◌, ◌<◌, true, false, List, [], ◌∷◌, ◌++◌, length, take, drop, replicate, refl, sym, ◌∙◌, ap, arith, length-append, Some, None, Result, Ok, Err}
 use Rattle.std.specs.Bool.{IsTrue}
-use Rattle.std.specs.List.{AllPass, All}
+use Rattle.std.specs.List.{AllPass}
 use Rattle.std.specs.Result.{result_ok}
 use Rattle.std.proofs.lemmas.List.Elements.{All-append, All-drop, All-replicate}
 use Rattle.hex.specs.Hex.{decode_of, decode_pairs, pair_value, ◌>>=◌, is_hex_digit}

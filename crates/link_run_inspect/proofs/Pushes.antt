@@ -1,5 +1,5 @@
 -- One more frame at the end of a list.
-use Rattle.std.proofs.Common.{◌≡◌, ℕ, zero, suc, ◌+◌, ◌-◌, ◌*◌, ◌<◌, ◌≤◌, ◌&&◌, Bool, true, false, cond, leb, ltb, eqb, List, [], ◌∷◌, ◌++◌, length, take, drop, Option, Some, None, refl, sym, ◌∙◌, ap, subst, arith, append_assoc, append-nil, length-append}
+use Rattle.std.proofs.Common.{◌≡◌, ℕ, suc, ◌+◌, ◌-◌, Bool, true, false, cond, ltb, List, [], ◌∷◌, ◌++◌, length, drop, Option, Some, None, refl, sym, ◌∙◌, ap, arith, append_assoc, append-nil}
 use Rattle.std.proofs.lemmas.List.{drop-append-le, drop_all, length_push}
 use Rattle.std.specs.List.{flat_map}
 use Rattle.std.proofs.lemmas.List.Sums.{sum_by_push}
@@ -7,7 +7,7 @@ use Rattle.line_code.specs.declared.characters.Rd.{Rd}
 use Rattle.line_code.specs.declared.characters.Rd.TheVariants.{Minus}
 use Rattle.hyperframe.specs.declared.synchronization.SyncState.{SyncState}
 use Rattle.hyperframe.specs.declared.synchronization.SyncState.TheVariants.{Held}
-use Rattle.hyperframe.specs.Locks.{Sync, sync_of, sync_x, sync_state, hunting}
+use Rattle.hyperframe.specs.Locks.{Sync, sync_of, sync_x}
 use Rattle.hyperframe.specs.Acquires.{next, next_in, state_without}
 use Rattle.hyperframe.specs.Loss.{Counted, violations_in as violations_of}
 use Rattle.hyperframe.proofs.SyncSteps.{sync_of-push}

@@ -1,17 +1,15 @@
 -- What a receiver keeps after one more frame, and the hyperframe that it ends.
-use Rattle.std.proofs.Common.{◌≡◌, ℕ, zero, suc, ◌+◌, ◌*◌, ◌<◌, ◌≤◌, ◌==◌, Bool, true, false, cond, List, [], ◌∷◌, ◌++◌, length, take, drop, Option, Some, None, Result, refl, sym, ◌∙◌, ap, subst, arith, length-append}
+use Rattle.std.proofs.Common.{◌≡◌, ℕ, zero, suc, ◌+◌, ◌*◌, ◌<◌, ◌≤◌, ◌==◌, true, false, cond, List, [], ◌∷◌, ◌++◌, length, take, drop, Option, Some, None, Result, sym, ◌∙◌, ap, subst, arith, length-append}
 use Rattle.std.specs.Prelude.{IfSome}
 use Rattle.std.proofs.lemmas.Bool.{eqb-true, cond-false, ne_eqb}
 use Rattle.std.proofs.lemmas.List.{length_push, take_all, take-append-le, length-take}
-use Rattle.std.proofs.Math.Seq.{take-append-add, take-length}
 use Rattle.std.proofs.Math.Nat.{mul-add, mul-le-mul_left}
-use Rattle.line_code.specs.declared.characters.Rd.{Rd}
 use Rattle.line_code.specs.declared.characters.Rd.TheVariants.{Minus}
 use Rattle.hyperframe.specs.declared.synchronization.SyncState.{SyncState}
 use Rattle.hyperframe.specs.declared.synchronization.SyncState.TheVariants.{Hunting, Found, Held, Lost}
 use Rattle.hyperframe.specs.Locks.{sync_state, sync_x}
 use Rattle.hyperframe.specs.Acquires.{Acquires}
-use Rattle.hyperframe.specs.Loss.{Counted, is_lost}
+use Rattle.hyperframe.specs.Loss.{is_lost}
 use Rattle.hyperframe.specs.CountsLoss.{CountsLoss, counted as count}
 use Rattle.control_words.specs.declared.announce.Announce.{Announce}
 use Rattle.control_words.specs.declared.announce.BadControl.{BadControl}
@@ -19,10 +17,9 @@ use Rattle.control_words.specs.Reading.{announced, numbers}
 use Rattle.link_run_inspect.specs.declared.changes.Hyperframe.{Hyperframe}
 use Rattle.link_run_inspect.specs.declared.reception.Reception.{Reception}
 use Rattle.line_code.specs.Decoded.{violations_in, disparity_along}
-use Rattle.link_run_inspect.specs.Frames.{has_comma, commas, counted, disparity_after, is_first, control_word, control_words, violations_of_last, state_at, place_at, is_lost_at, ends_in, ends_hyperframe}
+use Rattle.link_run_inspect.specs.Frames.{has_comma, commas, counted, disparity_after, is_first, control_word, control_words, violations_of_last, state_at, place_at, ends_in, ends_hyperframe}
 use Rattle.link_run_inspect.specs.Changes.{hyperframe_of, hyperframe_at}
 use Rattle.link_run_inspect.specs.Receives.{Receives}
-use Rattle.line_code.proofs.Spelling.{no_some}
 use Rattle.link_run_inspect.proofs.Pushes.{commas-push, disparity_after-push, count_of, counted-push, violations-push, control_words-push, control_words-zero, violations_of_last-push, violations_of_last-zero, place-before}
 
 -- ---- the hyperframe in hand

@@ -6,7 +6,7 @@ use Rattle.control_words.specs.declared.announce.Announce.{Announce}
 use Rattle.control_words.specs.declared.announce.BadControl.{BadControl}
 use Rattle.control_words.specs.declared.announce.BadControl.TheVariants.{Sync, Version, Hdlc, Pointer}
 use Rattle.control_words.specs.Reading.{announced, numbers}
-use Rattle.link_text.specs.Printed.{ended}
+use Rattle.link_run_management.specs.Events.{numbered}
 use Rattle.link_run_inspect.specs.declared.changes.Changes.{Changes}
 use Rattle.link_run_inspect.specs.declared.changes.Hyperframe.{Hyperframe}
 use Rattle.link_run_inspect.specs.Frames.{control_words, violations_of_last, state_at, is_lost_at, ends_hyperframe}
@@ -46,10 +46,6 @@ changes_of width frames frame =
     }
 
 -- ---- lines
-
--- a line about the frame of this number
-abbrev pub numbered : ℕ → List ℕ → List ℕ
-numbered n text = ended (decimal n ++ codes " " ++ text)
 
 abbrev pub sync_word : SyncState → List ℕ
 sync_word Hunting = codes "sync hunting"

@@ -1,10 +1,10 @@
 -- What a list of received basic frames says of synchronization, of the signal and of control words. A frame is the list of its
 -- symbols. The first frame of a line begins at negative disparity.
-use Rattle.std.specs.Prelude.{ℕ, ◌+◌, ◌-◌, ◌==◌, ◌&&◌, Bool, true, false, List, [], ◌∷◌, ◌++◌, map, length, take, drop, sum_by, slice_index, flat_map, Option, Some, None, Result}
+use Rattle.std.specs.Prelude.{ℕ, ◌-◌, ◌==◌, Bool, false, List, [], ◌∷◌, ◌++◌, map, length, take, drop, slice_index, flat_map, Option, Some, None}
 use Rattle.line_code.specs.declared.characters.Rd.{Rd}
 use Rattle.line_code.specs.declared.characters.Rd.TheVariants.{Minus}
 use Rattle.hyperframe.specs.declared.synchronization.SyncState.{SyncState}
-use Rattle.hyperframe.specs.declared.synchronization.SyncState.TheVariants.{Hunting, Found, Held, Lost}
+use Rattle.hyperframe.specs.declared.synchronization.SyncState.TheVariants.{Held}
 use Rattle.hyperframe.specs.Locks.{sync_state, sync_x}
 use Rattle.hyperframe.specs.Loss.{Counted, violations_in as violations_of, is_lost}
 use Rattle.line_code.specs.Decoded.{violations_in, disparity_along, octet_of, is_comma}

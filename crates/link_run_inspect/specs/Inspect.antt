@@ -1,5 +1,5 @@
 -- The feed of a line: the symbols of its basic frames, and the text that says what they show. Its form is this project's own.
-use Rattle.std.specs.Prelude.{codes, decimal, bytes_eq, ℕ, ◌+◌, ◌-◌, ◌*◌, ◌==◌, ◌&&◌, nat_le, List, [], ◌∷◌, ◌++◌, length, slice_index, Option, Some, None, Result, Ok, Err, if◌then◌else◌}
+use Rattle.std.specs.Prelude.{codes, decimal, bytes_eq, ℕ, ◌-◌, ◌*◌, ◌==◌, ◌&&◌, nat_le, List, [], ◌∷◌, ◌++◌, length, slice_index, Option, Some, None, Result, Ok, Err, if◌then◌else◌}
 use Rattle.hyperframe.specs.Loss.{violations_in as violations_of}
 use Rattle.link_text.specs.Decimals.{decimal_value}
 use Rattle.link_text.specs.Fields.{at_first_space}

@@ -3,7 +3,6 @@ pub mod Changes
 pub mod Receives
 pub mod Managed
 pub mod Events
-pub mod HandsIn
 pub mod Handed
 pub mod Inspect
 pub mod Inspects

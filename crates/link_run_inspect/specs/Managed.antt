@@ -1,10 +1,10 @@
 -- What a list of received basic frames hands to the readers of the two management channels. A reader begins anew before the
 -- first announcement, after a hyperframe that announces nothing, after a change of the HDLC code or the pointer, and where a
 -- lock that was held is lost. This is the project's own.
-use Rattle.std.specs.Prelude.{ℕ, zero, suc, ◌+◌, ◌*◌, ◌==◌, ◌&&◌, Bool, true, false, if◌then◌else◌, List, [], ◌∷◌, ◌++◌, length, take, flat_map, slice_index, Option, Some, None, Result, Ok, Err}
+use Rattle.std.specs.Prelude.{ℕ, zero, suc, ◌==◌, ◌&&◌, Bool, false, if◌then◌else◌, List, [], ◌∷◌, ◌++◌, length, take, flat_map, Option, Some, None, Result, Ok, Err}
 use Rattle.std.specs.List.{range_with_len}
 use Rattle.hyperframe.specs.declared.synchronization.SyncState.{SyncState}
-use Rattle.hyperframe.specs.declared.synchronization.SyncState.TheVariants.{Hunting, Found, Held, Lost}
+use Rattle.hyperframe.specs.declared.synchronization.SyncState.TheVariants.{Lost}
 use Rattle.control_words.specs.declared.announce.Announce.{Announce}
 use Rattle.control_words.specs.declared.announce.BadControl.{BadControl}
 use Rattle.control_words.specs.Places.{is_slow_place, is_fast_place}

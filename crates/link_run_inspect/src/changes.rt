@@ -2,10 +2,12 @@
 
 ghost use Rattle.std.specs.Prelude.{codes, decimal, ◌≡◌, ◌+◌, ◌≤◌, ◌++◌, [], length, IsTrue, Ok};
 ghost use Rattle.link_text.specs.Gathered.{text_capacity};
-ghost use Rattle.link_run_inspect.specs.Changes.{changed_state, changed_loss, sync_word, sync_text, loss_text, answer_words, hyperframe_text, changes_text, numbered};
+ghost use Rattle.link_run_inspect.specs.Changes.{changed_state, changed_loss, sync_word, sync_text, loss_text, answer_words, hyperframe_text, changes_text};
+ghost use Rattle.link_run_management.specs.Events.{numbered};
 
 use control_words::{Announce, BadControl};
 use hyperframe::SyncState;
+use link_run_management::{put_count, put_line};
 use link_text::TextBuffer;
 
 /// What a hyperframe says in its control words.
@@ -49,33 +51,6 @@ pub(crate) fn changed_loss(before: bool, now: bool) -> Option<bool>
     ensures { result ≡ changed_loss before now }
 {
     if before == now { None } else { Some(now) }
-}
-
-/// Appends a line about the frame of this number.
-pub(crate) fn put_line(number: u64, words: &str, text: &mut TextBuffer)
-    requires room { length text.old + 64 ≤ text_capacity }
-    requires few { length words.now ≤ 40 }
-    ensures text { text.new ≡ text.old ++ numbered number words.now }
-    ensures short { length text.new ≤ length text.old + 64 }
-{
-    text.put_number(number);
-    text.put(b" ");
-    text.put(words.as_bytes());
-    text.put(b"\n");
-}
-
-/// Appends a line about the frame of this number that says a number.
-pub(crate) fn put_count(number: u64, words: &str, count: u64, text: &mut TextBuffer)
-    requires room { length text.old + 84 ≤ text_capacity }
-    requires few { length words.now ≤ 40 }
-    ensures text { text.new ≡ text.old ++ numbered number (words.now ++ decimal count) }
-    ensures short { length text.new ≤ length text.old + 84 }
-{
-    text.put_number(number);
-    text.put(b" ");
-    text.put(words.as_bytes());
-    text.put_number(count);
-    text.put(b"\n");
 }
 
 fn sync_word(state: SyncState) -> &'static str

@@ -7,7 +7,8 @@ ghost use Rattle.control_words.specs.Places.{is_slow_place, is_fast_place};
 ghost use Rattle.link_run_inspect.specs.Managed.{octets_in_word, slow_octets, fast_octets};
 
 use arrayvec::ArrayVec;
-use control_words::{Announce, fast_octet, managed_len};
+use control_words::Announce;
+use link_run_management::{fast_len, slow_len};
 
 /// The octets of a channel in a hyperframe, at most all octets of its control words.
 pub(crate) type Octets = ArrayVec<u8, 4096>;
@@ -29,31 +30,6 @@ fn put_front<const Y: usize>(x: usize, count: usize, control: &[u8], out: &mut O
     out.try_extend_from_slice(&control[at..at + count]).unwrap();
 }
 
-/// How many octets of word `x` belong to the slow channel. They are its first.
-fn slow_len<const Y: usize>(x: usize, a: Announce) -> usize
-    requires size { IsWordSize Y }
-    requires within { IsWithinTable Y a }
-    requires place { x < 256 }
-    ensures fits { result ≤ Y }
-    ensures first { (y : ℕ) → y < Y → is_slow_place a.hdlc x y ≡ nat_lt y result }
-{
-    if fast_octet::<Y>(x as u8, 0, a) {
-        return 0;
-    }
-    managed_len::<Y>(x as u8, a)
-}
-
-/// How many octets of word `x` belong to the fast channel: all or none.
-fn fast_len<const Y: usize>(x: usize, a: Announce) -> usize
-    requires size { IsWordSize Y }
-    requires within { IsWithinTable Y a }
-    requires place { x < 256 }
-    ensures fits { result ≤ Y }
-    ensures first { (y : ℕ) → y < Y → is_fast_place a.pointer x ≡ nat_lt y result }
-{
-    if fast_octet::<Y>(x as u8, 0, a) { Y } else { 0 }
-}
-
 /// Appends the octets of the slow channel in word `x`.
 fn put_slow_word<const Y: usize>(x: usize, control: &[u8], a: Announce, out: &mut Octets)
     requires size { IsWordSize Y }
@@ -64,7 +40,7 @@ fn put_slow_word<const Y: usize>(x: usize, control: &[u8], a: Announce, out: &mu
     ensures octets { out.new.items ≡ out.old.items ++ octets_in_word (is_slow_place a.hdlc) Y control.now x }
     ensures few { length out.new.items ≤ Y * (x + 1) }
 {
-    put_front::<Y>(x, slow_len::<Y>(x, a), control, out);
+    put_front::<Y>(x, slow_len::<Y>(x as u8, a), control, out);
 }
 
 /// The octets of the slow channel.
@@ -90,7 +66,7 @@ fn put_fast_word<const Y: usize>(x: usize, control: &[u8], a: Announce, out: &mu
     ensures octets { out.new.items ≡ out.old.items ++ octets_in_word (λ x y. is_fast_place a.pointer x) Y control.now x }
     ensures few { length out.new.items ≤ Y * (x + 1) }
 {
-    put_front::<Y>(x, fast_len::<Y>(x, a), control, out);
+    put_front::<Y>(x, fast_len::<Y>(x as u8, a), control, out);
 }
 
 /// The octets of the fast channel.

@@ -1,157 +1,25 @@
 //! The two management channels, as far as the line's frames hand bits to their readers.
 
-ghost use Rattle.std.specs.Prelude.{◌≡◌, ◌+◌, ◌*◌, ◌<◌, ◌≤◌, ℕ, Bool, List, length, take, drop, IfOk, OnOk, OnErr};
+ghost use Rattle.std.specs.Prelude.{◌≡◌, ◌*◌, length, IfOk, OnOk, OnErr};
 ghost use Rattle.std.specs.Option.{ForSome};
 ghost use Rattle.std.specs.Result.{ForOk};
 ghost use Rattle.link_base.specs.Faults.{HasCause};
 ghost use Rattle.link_base.specs.WordSize.{IsWordSize};
 ghost use Rattle.control_words.specs.Announcement.{IsWithinTable};
-ghost use Rattle.hdlc_channel.specs.Bits.{bits_of, octet_bits};
-ghost use Rattle.hdlc_channel.specs.Reader.{StandsFor as SlowStandsFor};
 ghost use Rattle.link_text.specs.Gathered.{Gathers, BreaksOff};
-ghost use Rattle.link_run_inspect.specs.Events.{slow_line};
-ghost use Rattle.link_run_inspect.specs.HandsIn.{HandsIn, BreaksAmong};
 ghost use Rattle.link_run_inspect.specs.Managed.{has_same_channels};
 
 use crate::changes::Changes;
 use crate::channel_octets::{Octets, take_fast, take_slow};
-use crate::events::{LINE, put_fast, put_slow};
 use arrayvec::ArrayVec;
 use control_words::Announce;
 use ethernet_channel::FastReader;
 use hdlc_channel::SlowReader;
 use hyperframe::SyncState;
 use link_base::{Failed, NoMemory, Sink};
+use link_run_management::push_octets;
 use link_text::TextBuffer;
 use std::alloc::Global;
-
-/// A reader that takes the octets of a channel one after another, each from its lowest bit on.
-trait Channel: Drop {
-    /// The reader was handed these bits.
-    ghost stands: { Self → List Bool → Type 0 };
-
-    /// The line about the last of these bits.
-    ghost line: { ℕ → List Bool → List ℕ };
-
-    /// Hands in the bits of an octet, and appends the lines of what they complete.
-    fn take<K: Sink>(
-        &mut self,
-        number: u64,
-        octet: u8,
-        text: &mut TextBuffer,
-        out: &mut K,
-    ) -> Result<(), Failed>
-        ensures cause { HasCause (K.taken out.old).faults (K.taken out.new).faults result }
-        ensures hands { OnOk result (HandsIn stands line number (octet_bits octet) self.old self.new text.old (K.taken out.old) text.new (K.taken out.new)) }
-        ensures fails { OnErr result (BreaksAmong stands line number (octet_bits octet) self.old text.old (K.taken out.old) (K.taken out.new)) };
-}
-
-impl Channel for SlowReader {
-    ghost use Rattle.hdlc_channel.specs.Reader.{StandsFor};
-    ghost use Rattle.link_run_inspect.specs.Events.{slow_line};
-
-    ghost stands = { StandsFor };
-
-    ghost line = { slow_line };
-
-    fn take<K: Sink>(
-        &mut self,
-        number: u64,
-        octet: u8,
-        text: &mut TextBuffer,
-        out: &mut K,
-    ) -> Result<(), Failed> {
-        let mut from = 0;
-        while from < 8 {
-            match push_slow(self, number, octet, from, text, out) {
-                Ok(bits) => from += bits,
-                Err(failed) => return Err(failed),
-            }
-        }
-        Ok(())
-    }
-}
-
-impl Channel for FastReader {
-    ghost use Rattle.ethernet_channel.specs.Keeps.{StandsFor};
-    ghost use Rattle.link_run_inspect.specs.Events.{fast_line};
-
-    ghost stands = { StandsFor };
-
-    ghost line = { fast_line };
-
-    fn take<K: Sink>(
-        &mut self,
-        number: u64,
-        octet: u8,
-        text: &mut TextBuffer,
-        out: &mut K,
-    ) -> Result<(), Failed> {
-        let event = match self.push_octet(octet) {
-            Some(event) => event,
-            None => return Ok(()),
-        };
-        match text.make_room(LINE, out) {
-            Ok(()) => {
-                put_fast(number, event, self.frame(), text);
-                Ok(())
-            }
-            Err(failed) => Err(failed),
-        }
-    }
-}
-
-/// Hands in the bits of an octet from bit `from` on, up to the first that completes something, and appends the line of what it
-/// completes. Says how many bits they are.
-fn push_slow<K: Sink>(
-    reader: &mut SlowReader,
-    number: u64,
-    octet: u8,
-    from: u32,
-    text: &mut TextBuffer,
-    out: &mut K,
-) -> Result<u32, Failed>
-    requires { from < 8 }
-    ensures cause { HasCause (K.taken out.old).faults (K.taken out.new).faults result }
-    ensures some { IfOk result (λ bits. 1 ≤ bits) }
-    ensures within { IfOk result (λ bits. from + bits ≤ 8) }
-    ensures hands { IfOk result (λ bits. HandsIn SlowStandsFor slow_line number (take bits (drop from (octet_bits octet))) reader.old reader.new text.old (K.taken out.old) text.new (K.taken out.new)) }
-    ensures fails { OnErr result (BreaksAmong SlowStandsFor slow_line number (drop from (octet_bits octet)) reader.old text.old (K.taken out.old) (K.taken out.new)) }
-{
-    let taken = reader.push_octet(octet, from);
-    let event = match taken.event {
-        Some(event) => event,
-        None => return Ok(taken.bits),
-    };
-    match text.make_room(LINE, out) {
-        Ok(()) => {
-            put_slow(number, event, reader.frame(), text);
-            Ok(taken.bits)
-        }
-        Err(failed) => Err(failed),
-    }
-}
-
-/// Hands in octets, each from its lowest bit on, and appends the lines of what they complete.
-fn push_octets<C: Channel, K: Sink>(
-    channel: &mut C,
-    number: u64,
-    octets: &[u8],
-    text: &mut TextBuffer,
-    out: &mut K,
-) -> Result<(), Failed>
-    ensures cause { HasCause (K.taken out.old).faults (K.taken out.new).faults result }
-    ensures hands { OnOk result (HandsIn C.stands C.line number (bits_of octets.now) channel.old channel.new text.old (K.taken out.old) text.new (K.taken out.new)) }
-    ensures fails { OnErr result (BreaksAmong C.stands C.line number (bits_of octets.now) channel.old text.old (K.taken out.old) (K.taken out.new)) }
-{
-    for octet in octets {
-        match channel.take(number, *octet, text, out) {
-            Ok(()) => {}
-            Err(failed) => return Err(failed),
-        }
-    }
-    Ok(())
-}
 
 /// The readers of the two channels.
 #[derive(Drop)]

@@ -4,7 +4,6 @@
 mod changes;
 mod channel_octets;
 mod channels;
-mod events;
 mod inspection;
 mod inspector;
 mod reception;

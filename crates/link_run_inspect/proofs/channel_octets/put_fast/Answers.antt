@@ -1,4 +1,4 @@
-use Rattle.std.proofs.Common.{◌≡◌, ℕ, ◌++◌, ◌∷◌, [], arith, ap, ◌∙◌}
+use Rattle.std.proofs.Common.{◌≡◌, ℕ, [], arith, ap, ◌∙◌}
 use Rattle.std.specs.List.{flat_map, range_with_len}
 use Rattle.control_words.specs.Places.{is_fast_place}
 use Rattle.link_run_inspect.specs.Managed.{octets_in_word, fast_octets}

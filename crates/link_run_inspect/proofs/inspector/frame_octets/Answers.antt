@@ -1,4 +1,4 @@
-use Rattle.std.proofs.Common.{◌≡◌, ◌*◌, ◌==◌, ◌∙◌, true, false, length, None, eq-eqb}
+use Rattle.std.proofs.Common.{◌*◌, ◌==◌, ◌∙◌, length, None, eq-eqb}
 use Rattle.std.proofs.lemmas.Bool.{cond-true}
 use Rattle.link_text.specs.Hexadecimal.{spelled_octets}
 use Rattle.link_run_inspect.proofs.inspector.frame_octets.Goals as goal

@@ -1,4 +1,4 @@
-use Rattle.std.proofs.Common.{◌≡◌, ◌≤◌, ◌<◌, ◌*◌, ◌+◌, ◌++◌, length, take, map, arith, ap, ◌∙◌, sym}
+use Rattle.std.proofs.Common.{◌≤◌, ◌*◌, ◌++◌, length, take, map, arith, ap, ◌∙◌, sym}
 use Rattle.std.proofs.lemmas.List.{map-append, take-map, take-take}
 use Rattle.line_code.specs.Packed.{symbols_in, word_at, four_symbols}
 use Rattle.line_code.specs.Decoded.{octet_of}

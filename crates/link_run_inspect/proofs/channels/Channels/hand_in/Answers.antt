@@ -1,12 +1,13 @@
-use Rattle.std.proofs.Common.{ℕ, List, ◌++◌, subst, refl, sym, ◌∙◌, append_assoc}
+use Rattle.std.proofs.Common.{ℕ, List, ◌++◌, subst, refl, ◌∙◌, append_assoc}
 use Rattle.hdlc_channel.specs.Bits.{bits_of}
 use Rattle.hdlc_channel.specs.Reader.{StandsFor as SlowStandsFor}
 use Rattle.ethernet_channel.specs.Keeps.{StandsFor as FastStandsFor}
 use Rattle.link_base.specs.Sink.{AppendsFront}
 use Rattle.link_text.proofs.Gathering.{gathers_then, breaks_then, front_of_more}
 use Rattle.link_run_inspect.specs.Managed.{slow_octets, fast_octets, handed_in}
-use Rattle.link_run_inspect.specs.Events.{slow_line, fast_line, bit_lines, handed_text}
-use Rattle.link_run_inspect.specs.HandsIn.{HandsIn, BreaksAmong}
+use Rattle.link_run_management.specs.Events.{slow_line, fast_line, bit_lines}
+use Rattle.link_run_inspect.specs.Events.{handed_text}
+use Rattle.link_run_management.specs.HandsIn.{HandsIn, BreaksAmong}
 use Rattle.link_run_inspect.proofs.channels.Channels.hand_in.Goals as goal
 
 pub returns-clause-stands : goal.returns-clause-stands

@@ -1,9 +1,8 @@
-use Rattle.std.proofs.Common.{◌≡◌, ◌==◌, ◌∙◌, ℕ, List, Bool, false, take, length, sym, ap, Result, Err}
+use Rattle.std.proofs.Common.{◌≡◌, ◌==◌, ◌∙◌, false, take, length, sym, ap, Err}
 use Rattle.std.proofs.lemmas.Bool.{cond-false, ne_eqb}
-use Rattle.link_run_feed.specs.declared.reason.Reason.{Reason}
 use Rattle.link_run_feed.specs.declared.reason.Reason.TheVariants.{Count}
 use Rattle.line_code.specs.Packed.{symbols_in}
-use Rattle.link_run_inspect.specs.Inspect.{Inspected, with_frame, with_octets, frame_octets, frame_text}
+use Rattle.link_run_inspect.specs.Inspect.{with_frame, with_octets, frame_octets, frame_text}
 use Rattle.link_run_inspect.proofs.inspector.InspectorFeed.read.Goals as goal
 
 pub returns-in-Err-clause-fails : goal.returns-in-Err-clause-fails

@@ -1,4 +1,4 @@
-use Rattle.std.proofs.Common.{◌∙◌, sym, ap, false, true}
+use Rattle.std.proofs.Common.{◌∙◌, sym, ap}
 use Rattle.control_words.specs.Reading.{numbers, announced}
 use Rattle.link_run_inspect.proofs.Receiving.{hyperframe_none, hyperframe_some, of_parts}
 use Rattle.link_run_inspect.proofs.reception.Reception.hyperframe.Goals as goal

@@ -1,11 +1,11 @@
-use Rattle.std.proofs.Common.{◌≡◌, ◌∙◌, ◌+◌, ◌<◌, ◌++◌, subst, ◌∷◌, [], sym, ap, refl, arith}
+use Rattle.std.proofs.Common.{◌≡◌, ◌∙◌, ◌+◌, ◌<◌, ◌++◌, subst, ◌∷◌, [], ap, refl, arith}
 use Rattle.hyperframe.specs.Locks.{sync_state, sync_x}
 use Rattle.hyperframe.specs.Acquires.{Acquires}
 use Rattle.hyperframe.specs.Loss.{is_lost}
 use Rattle.hyperframe.specs.CountsLoss.{CountsLoss, counted as count}
 use Rattle.line_code.specs.Packed.{symbols_in}
 use Rattle.line_code.specs.Decoded.{is_comma}
-use Rattle.link_run_inspect.specs.Frames.{commas, counted, has_comma, is_first}
+use Rattle.link_run_inspect.specs.Frames.{commas, counted, has_comma}
 use Rattle.link_run_inspect.proofs.Receiving.{Receives-push, if_some}
 use Rattle.link_run_inspect.proofs.reception.Reception.receive.Goals as goal
 

@@ -1,6 +1,0 @@
-use Rattle.std.proofs.Common.{sym, ◌∙◌}
-use Rattle.link_run_inspect.proofs.Octets.{slow_none}
-use Rattle.link_run_inspect.proofs.channel_octets.slow_len.Goals as goal
-
-pub returns-then-fast_octet-clause-first : goal.returns-then-fast_octet-clause-first
-returns-then-fast_octet-clause-first g c y within = slow_none c.args.a.hdlc c.args.a.pointer c.args.x y (sym c.fast_octet.ensures ∙ c.if-fast_octet.true)

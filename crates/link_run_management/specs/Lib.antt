@@ -1,0 +1,5 @@
+pub mod Events
+pub mod HandsIn
+pub mod Management
+pub mod Following
+pub mod Reads
