@@ -109,7 +109,8 @@ pub fn control_word<const Y: usize>(
     requires flows { (h : ℕ) × KeepFlows plan.now h (n + plan.now.playout) flows.now }
     requires spelled { plan.now.mode ≡ Mode.Tunnel → option_copied spelled ≡ octets_in_hand plan.now flows.now 0 n }
     requires whole { ForSome spelled (λ octets. length octets.now ≡ 16 * word_size plan.now.option) }
-    ensures { result ≡ control_in_hand plan.now flows.now Y f n }
+    ensures word { result ≡ control_in_hand plan.now flows.now Y f n }
+    ensures octets { ForSome result (λ word. length word ≡ Y) }
 {
     match octets_of(plan, flows, spelled, f, n) {
         Some(octets) => Some(front(octets)),
@@ -120,7 +121,8 @@ pub fn control_word<const Y: usize>(
 // The first octets.
 fn front<const Y: usize>(octets: &[u8]) -> [u8; Y]
     requires { Y ≤ length octets.now }
-    ensures { result ≡ take Y octets.now }
+    ensures front { result ≡ take Y octets.now }
+    ensures whole { length result ≡ Y }
 {
     let mut front = [0; Y];
     front.copy_from_slice(&octets[..Y]);

@@ -54,6 +54,7 @@ pub fn play_tick<const Y: usize>(
     ensures early { tick < checked.now.playout → carriers.new ≡ carriers.old }
     ensures played { checked.now.playout ≤ tick → HavePlayed checked.now flows.now (tick - checked.now.playout) run_ticks carriers.old carriers.new }
     ensures control { checked.now.playout ≤ tick → IsControlInHand checked.now flows.now Y (tick - checked.now.playout) control.new }
+    ensures octets { ForSome control.old (λ word. length word ≡ Y) → ForSome control.new (λ word. length word ≡ Y) }
 {
     let plan = checked.plan();
     let playout = u64::from(plan.playout);

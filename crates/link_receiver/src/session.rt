@@ -1,11 +1,13 @@
 // Plays a run: octets arrive at the present tick, and samples leave at each.
 ghost use Rattle.std.specs.Prelude.{◌≡◌, ◌+◌, ◌-◌, ◌<◌, ◌≤◌, ◌^◌, ◌++◌, ◌∷◌, [], List, IfOk, IsTrue, true, false, length, slice_get, Some};
+ghost use Rattle.std.specs.Option.{ForSome, option_copied};
 ghost use Rattle.carrier_plan.specs.declared.plan.Flow.{Flow as OneFlow};
 ghost use Rattle.link_base.specs.Record.{Record};
 ghost use Rattle.plan_checker.specs.Packets.{run_packets};
 ghost use Rattle.plan_checker.specs.Run.{ticks_of_run};
 ghost use Rattle.plan_checker.specs.WordSize.{word_size};
 ghost use Rattle.link_receiver.specs.Answers.{answer_by, arrives};
+ghost use Rattle.link_receiver.specs.Containers.{control_of_frame};
 ghost use Rattle.link_receiver.specs.Output.{entries_before};
 ghost use Rattle.link_receiver.specs.Received.{taken};
 ghost use Rattle.link_receiver.specs.Runs.{entries_of_before, entries_of_run};
@@ -47,6 +49,7 @@ pub struct Session<const Y: usize> {
 
 impl<const Y: usize> Model for Session<Y> {
     ghost use Rattle.std.specs.Prelude.{◌≡◌, ◌*◌, ◌≤◌, length};
+    ghost use Rattle.std.specs.Option.{ForSome};
     ghost use Rattle.std.specs.Coded.{codes};
     ghost use Rattle.std.specs.Vec.{vec_capacity};
     ghost use Rattle.playout_buffer.specs.View.{view_code};
@@ -77,7 +80,7 @@ impl<const Y: usize> Model for Session<Y> {
       listed = s.listed;
       entries = s.entries.items;
       control = s.control;
-    }) × (Y ≡ word_size s.checked.option) × (32 * length s.checked.carriers ≤ vec_capacity s.entries) };
+    }) × (Y ≡ word_size s.checked.option) × (32 * length s.checked.carriers ≤ vec_capacity s.entries) × ForSome s.control (λ word. length word ≡ Y) };
 }
 
 impl<const Y: usize> Session<Y> {
@@ -208,6 +211,19 @@ impl<const Y: usize> Session<Y> {
             → result.now ≡ entries_before self.now.plan self.now.frames records self.now.tick }
     {
         self.entries.as_slice()
+    }
+
+    /// The control word of the frame that was played last, in the flow that has control. None where the frame is missed in it.
+    pub fn control(&self) -> Option<&[u8]>
+        requires { self.now.plan.playout < self.now.tick }
+        ensures control { (records : List Record) → StandsFor self.now records
+            → option_copied result ≡ control_of_frame self.now.plan self.now.frames records (self.now.tick - 1 - self.now.plan.playout) }
+        ensures octets { ForSome result (λ octets. length octets.now ≡ word_size self.now.plan.option) }
+    {
+        match &self.control {
+            Some(word) => Some(word.as_slice()),
+            None => None,
+        }
     }
 
     /// The present tick, which was not yet played.

@@ -1,10 +1,13 @@
 // A session of a plan in words of any size.
 ghost use Rattle.std.specs.Prelude.{◌≡◌, ◌+◌, ◌-◌, ◌<◌, ◌≤◌, ◌^◌, ◌++◌, ◌∷◌, [], List, IfOk, IsTrue, true, length, slice_get, Some};
+ghost use Rattle.std.specs.Option.{ForSome, option_copied};
 ghost use Rattle.carrier_plan.specs.declared.plan.Flow.{Flow as OneFlow};
 ghost use Rattle.link_base.specs.Record.{Record};
 ghost use Rattle.plan_checker.specs.Packets.{run_packets};
 ghost use Rattle.plan_checker.specs.Run.{ticks_of_run};
+ghost use Rattle.plan_checker.specs.WordSize.{word_size};
 ghost use Rattle.link_receiver.specs.Answers.{arrives};
+ghost use Rattle.link_receiver.specs.Containers.{control_of_frame};
 ghost use Rattle.link_receiver.specs.Output.{entries_before};
 ghost use Rattle.link_receiver.specs.Received.{taken};
 ghost use Rattle.link_receiver.specs.Runs.{entries_of_before, entries_of_run};
@@ -158,6 +161,23 @@ impl AnySession {
             ($($size:ident)*) => {
                 match &self.session {
                     $(Sized::$size(session) => session.entries(),)*
+                }
+            };
+        }
+        at_each_size!(One Two Four Five Eight Ten Sixteen)
+    }
+
+    /// The control word of the frame that was played last, in the flow that has control. None where the frame is missed in it.
+    pub fn control(&self) -> Option<&[u8]>
+        requires { self.now.plan.playout < self.now.tick }
+        ensures control { (records : List Record) → StandsFor self.now records
+            → option_copied result ≡ control_of_frame self.now.plan self.now.frames records (self.now.tick - 1 - self.now.plan.playout) }
+        ensures octets { ForSome result (λ octets. length octets.now ≡ word_size self.now.plan.option) }
+    {
+        macro_rules! at_each_size {
+            ($($size:ident)*) => {
+                match &self.session {
+                    $(Sized::$size(session) => session.control(),)*
                 }
             };
         }

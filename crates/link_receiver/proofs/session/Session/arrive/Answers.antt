@@ -33,7 +33,7 @@ invariant_of-self g c =
     } in
     let takes : Takes c.index_mut.result.now c.take-put.new.self c.in-Ok.arrival.seq c.in-Ok.arrival.payload.now c.take-put.result
     = record { answered = c.take-put.ensures.answer; held = c.take-put.ensures.held; taken = c.take-put.ensures.taken } in
-    (session-taken s c.self.invariant.0 c.args.octets.now c.in-Ok.arrival.payload.now c.in-Ok.arrival.flow c.in-Ok.arrival.seq c.in-Ok.ensures c.index_mut.result.now c.take-put.new.self c.take-put.result (sym c.index_mut.ensures.value) takes, c.self.invariant.1, c.self.invariant.2)
+    (session-taken s c.self.invariant.0 c.args.octets.now c.in-Ok.arrival.payload.now c.in-Ok.arrival.flow c.in-Ok.arrival.seq c.in-Ok.ensures c.index_mut.result.now c.take-put.new.self c.take-put.result (sym c.index_mut.ensures.value) takes, c.self.invariant.1, c.self.invariant.2, c.self.invariant.3)
 
 pub returns-in-Ok-clause-answer : goal.returns-in-Ok-clause-answer
 returns-in-Ok-clause-answer g c records stands =

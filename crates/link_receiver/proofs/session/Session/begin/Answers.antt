@@ -1,4 +1,4 @@
-use Rattle.std.proofs.Common.{length, sym, ap, ◌∙◌, subst, arith}
+use Rattle.std.proofs.Common.{◌≡◌, ℕ, List, None, Some, length, sym, ap, ◌∙◌, subst, arith}
 use Rattle.carrier_plan.specs.declared.plan.Plan.{Plan}
 use Rattle.link_base.specs.WordSize.{IsWordSize}
 use Rattle.plan_checker.specs.Rules.{IsGood}
@@ -27,6 +27,7 @@ invariant_of-result g c =
       session-begun p c.args.frames c.in_ok-flows_in_hand.field-0.items c.in_ok-carriers_in_hand.field-0.items c.in_ok-with_capacity.field-0.items good c.requires.run flows carriers,
       c.requires.words ∙ ap (λ (q : Plan). word_size q.option) (sym copy),
       omega (arith, room, count, same),
+      λ word is. absurd (let none : None ≡ Some word = is in cc),
     )
 
 pub returns-clause-stands : goal.returns-clause-stands

@@ -111,7 +111,7 @@ invariant_of-self g c =
       unlisted = refl;
     } in
     let now : s.tick < ticks_of_run s.plan s.frames = subst (λ (v : SessionView). v.tick < ticks_of_run v.plan v.frames) (sym c.self.view_is) c.requires in
-    (session-ticked s s' g.row.Y is now does, c.self.invariant.1, c.self.invariant.2)
+    (session-ticked s s' g.row.Y is now does, c.self.invariant.1, c.self.invariant.2, c.play_tick.ensures.octets c.self.invariant.3)
 
 pub returns-clause-stands : goal.returns-clause-stands
 returns-clause-stands g c records stands =
