@@ -30,16 +30,16 @@ pub enum BadControl {
     Pointer { got: u8 },
 }
 
-/// Whether words of `Y` octets have the places of an HDLC rate code.
-pub(crate) fn allows_hdlc<const Y: usize>(code: u8) -> bool
-    ensures { result ≡ allows_hdlc Y code }
+/// Whether words of so many octets have the places of an HDLC rate code.
+pub(crate) fn allows_hdlc(width: usize, code: u8) -> bool
+    ensures { result ≡ allows_hdlc width code }
 {
     match code {
         0..=2 => true,
-        3 => Y >= 2,
-        4 => Y >= 4,
-        5 => Y >= 5,
-        6 => Y >= 8,
+        3 => width >= 2,
+        4 => width >= 4,
+        5 => width >= 5,
+        6 => width >= 8,
         _ => false,
     }
 }
@@ -49,4 +49,26 @@ pub(crate) fn allows_pointer(pointer: u8) -> bool
     ensures { result ≡ allows_pointer pointer }
 {
     matches!(pointer, 0 | 20..=63)
+}
+
+impl Announce {
+    ghost use Rattle.std.specs.Prelude.{◌≡◌, IfSome};
+    ghost use Rattle.control_words.specs.Announcement.{announcement_of, IsWithinTable};
+
+    /// The announcement of two channels, of version 1 and with no bit of the L1 inband protocol. None where words of so many
+    /// octets have no places of this HDLC rate code, or the pointer is outside its table.
+    pub fn of_channels(width: usize, hdlc: u8, pointer: u8) -> Option<Announce>
+        ensures announcement { result ≡ announcement_of width hdlc pointer }
+        ensures within { IfSome result (IsWithinTable width) }
+    {
+        if !allows_hdlc(width, hdlc) || !allows_pointer(pointer) {
+            return None;
+        }
+        Some(Announce {
+            version: 1,
+            hdlc,
+            pointer,
+            l1: 0,
+        })
+    }
 }

@@ -46,7 +46,7 @@ pub fn announce_of<const Y: usize>(control: &[u8]) -> Result<Announce, BadContro
         return Err(BadControl::Version { got: version });
     }
     let rate = first_octet::<Y>(control, 66);
-    if !allows_hdlc::<Y>(rate % 8) {
+    if !allows_hdlc(Y, rate % 8) {
         return Err(BadControl::Hdlc { got: rate });
     }
     let pointer = first_octet::<Y>(control, 194);
