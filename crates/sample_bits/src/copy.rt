@@ -44,6 +44,31 @@ pub fn copy_bits(src: &[u8], from: usize, dst: &mut [u8], at: usize, count: usiz
     requires room { at + count ≤ 8 * length dst.old }
     ensures { CopiesBits src.now from dst.old dst.new at count }
 {
+    if from % 8 == 0 && at % 8 == 0 && count % 8 == 0 {
+        copy_octets(src, from / 8, dst, at / 8, count / 8);
+    } else {
+        copy_pieces(src, from, dst, at, count);
+    }
+}
+
+// Copies whole octets.
+#[inline]
+fn copy_octets(src: &[u8], from: usize, dst: &mut [u8], at: usize, count: usize)
+    requires source { from + count ≤ length src.now }
+    requires room { at + count ≤ length dst.old }
+    ensures copied { (j : ℕ) → j < 8 * count → bit_of dst.new (8 * at + j) ≡ bit_of src.now (8 * from + j) }
+    ensures before { (k : ℕ) → k < 8 * at → bit_of dst.new k ≡ bit_of dst.old k }
+    ensures after { (k : ℕ) → 8 * at + 8 * count ≤ k → bit_of dst.new k ≡ bit_of dst.old k }
+{
+    dst[at..at + count].copy_from_slice(&src[from..from + count]);
+}
+
+// Copies bits in pieces of at most 64.
+fn copy_pieces(src: &[u8], from: usize, dst: &mut [u8], at: usize, count: usize)
+    requires source { from + count ≤ 8 * length src.now }
+    requires room { at + count ≤ 8 * length dst.old }
+    ensures { CopiesBits src.now from dst.old dst.new at count }
+{
     let mut source = Place::of(from);
     let mut target = Place::of(at);
     let mut left = count;

@@ -1,6 +1,6 @@
 use Rattle.std.proofs.Common.{◌-◌, ◌+◌, ◌*◌, arith}
 use Rattle.sample_bits.proofs.OctetLemmas.{CopiesBits-join}
-use Rattle.sample_bits.proofs.copy.copy_bits.Goals as goal
+use Rattle.sample_bits.proofs.copy.copy_pieces.Goals as goal
 
 pub loop-left-preserved : goal.loop-left-preserved
 loop-left-preserved c =

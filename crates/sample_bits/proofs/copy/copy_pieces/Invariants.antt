@@ -1,6 +1,6 @@
 use Rattle.std.proofs.Common.{◌≡◌, ◌+◌, ◌-◌, ◌*◌, ◌≤◌}
 use Rattle.sample_bits.specs.Copied.{CopiesBits}
-use Rattle.sample_bits.proofs.copy.copy_bits.Given as goal
+use Rattle.sample_bits.proofs.copy.copy_pieces.Given as goal
 
 -- what is left is what was not copied yet, and both places stand where it begins
 abbrev pub invariant-loop-left : goal.invariant-loop-left
