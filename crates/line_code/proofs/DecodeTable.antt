@@ -12,8 +12,8 @@ use Rattle.line_code.specs.declared.characters.Rd.{Rd}
 use Rattle.line_code.specs.declared.characters.Rd.TheVariants.{Minus, Plus}
 use Rattle.line_code.specs.declared.tables.TheConstants.{SPELLED}
 use Rattle.line_code.specs.Code.{disparity_after, disparity_by_ones, symbol_of, IsCharacter, Spells, IsCheckOf}
-use Rattle.line_code.specs.Decoded.{octet_by, is_comma_by}
-use Rattle.line_code.specs.Tables.{disparity_past, violations_of, is_spelled_at, is_comma_entry, entry_character, entry_decoded}
+use Rattle.line_code.specs.Decoded.{octet_by, is_comma_by, is_octet_by}
+use Rattle.line_code.specs.Tables.{disparity_past, violations_of, is_spelled_at, is_comma_entry, is_octet_entry, entry_character, entry_decoded}
 use Rattle.line_code.proofs.EncodeTable.{holds_of_octets, at_octet, same_disparity, same_disparity-true, spelled_once}
 
 -- whether a character is the comma or an octet
@@ -167,6 +167,39 @@ comma_by_test true true octet h = absurd (let wrong = (and_parts (octet == 0) fa
 comma_by_test true false octet h = refl
 comma_by_test false true octet h = refl
 comma_by_test false false octet h = refl
+
+-- whether each entry tells whether its symbol spells an octet
+tells_octets : ℕ → Bool
+tells_octets entry = if entry / 4 % 4 == 3 then not (is_octet_entry entry) else (if is_comma_entry entry then not (is_octet_entry entry) else is_octet_entry entry)
+
+all_tell_octets : List ℕ → Bool
+all_tell_octets [] = true
+all_tell_octets (entry ∷ entries) = tells_octets entry && all_tell_octets entries
+
+table_tells_octets : all_tell_octets SPELLED ≡ true
+unfolding all_tell_octets tells_octets code_on_literals
+table_tells_octets = refl
+
+told_at : (entries : List ℕ) → all_tell_octets entries ≡ true → (k : ℕ) → k < length entries → tells_octets (get_or entries k 0) ≡ true
+unfolding all_tell_octets
+told_at [] h k lt = absurd (omega arith)
+told_at (entry ∷ entries) h zero lt = (and_parts (tells_octets entry) (all_tell_octets entries) h).0
+told_at (entry ∷ entries) h (suc k) lt = told_at entries (and_parts (tells_octets entry) (all_tell_octets entries) h).1 k (omega arith)
+
+is_octet_by_test : (none comma octet : Bool) (value : ℕ) → cond none (not octet) (cond comma (not octet) octet) ≡ true
+    → octet ≡ is_octet_by (cond none None (Some (cond comma Comma (Octet value))))
+is_octet_by_test true comma true value h = absurd (let wrong : false ≡ true = h in cc)
+is_octet_by_test true comma false value h = refl
+is_octet_by_test false true true value h = absurd (let wrong : false ≡ true = h in cc)
+is_octet_by_test false true false value h = refl
+is_octet_by_test false false true value h = refl
+is_octet_by_test false false false value h = absurd (let wrong : false ≡ true = h in cc)
+
+pub is_octet_of_entry : (bits : ℕ) → bits < 1024 → is_octet_entry (get_or SPELLED bits 0) ≡ is_octet_by (entry_decoded (get_or SPELLED bits 0))
+unfolding tells_octets entry_character
+is_octet_of_entry bits small =
+    let entry = get_or SPELLED bits 0 in
+    is_octet_by_test (entry / 4 % 4 == 3) (is_comma_entry entry) (is_octet_entry entry) (entry / 256) (told_at SPELLED table_tells_octets bits small)
 
 pub octet_of_entry : (bits : ℕ) → bits < 1024 → get_or SPELLED bits 0 / 256 ≡ octet_by (entry_decoded (get_or SPELLED bits 0))
 unfolding has_octet entry_character

@@ -1,14 +1,14 @@
 -- The tables of symbols are held against the published code at each octet, by computing.
-use Rattle.std.proofs.Common.{◌≡◌, ℕ, ◌<◌, Bool, true, false, ◌&&◌, ◌==◌, bit_and, get_or, List, refl, sym, ◌∙◌}
+use Rattle.std.proofs.Common.{◌≡◌, ℕ, ◌+◌, ◌*◌, ◌<◌, Bool, true, false, ◌&&◌, ◌==◌, bit_and, get_or, refl, sym, ◌∙◌}
 use Rattle.std.proofs.lemmas.Bool.{and_parts, agree_below, agree_below_at, eqb-true}
 use Rattle.line_code.proofs.OnLiterals.{code_on_literals}
 use Rattle.line_code.specs.declared.characters.Char.TheVariants.{Octet, Comma}
 use Rattle.line_code.specs.declared.characters.Char.{Char}
 use Rattle.line_code.specs.declared.characters.Rd.{Rd}
 use Rattle.line_code.specs.declared.characters.Rd.TheVariants.{Minus, Plus}
-use Rattle.line_code.specs.declared.tables.TheConstants.{COMMA_AT_MINUS, COMMA_AT_PLUS, SYMBOL_BITS, SYMBOLS_AT_MINUS, SYMBOLS_AT_PLUS}
+use Rattle.line_code.specs.declared.tables.TheConstants.{COMMA_AT_MINUS, COMMA_AT_PLUS, SYMBOL_BITS, SYMBOLS}
 use Rattle.line_code.specs.Code.{disparity_after, symbol_of, Spells}
-use Rattle.line_code.specs.Tables.{entry_disparity}
+use Rattle.line_code.specs.Tables.{entry_disparity, rd_number}
 
 -- whether two disparities are the same
 abbrev pub same_disparity : Rd → Rd → Bool
@@ -47,32 +47,20 @@ is_symbol_entry-true rd octet entry turning small h =
       disparity = same_disparity-true _ _ parts.1;
     }
 
--- a table whose 256 entries pass, where the entries at negative disparity tell the disparity after a symbol
-from_table : (rd : Rd) (table : List ℕ)
-    → holds_of_octets (λ octet. is_symbol_entry rd octet (get_or table octet 0) (get_or SYMBOLS_AT_MINUS octet 0)) ≡ true
-    → (octet : ℕ) → octet < 256
-    → Spells rd (Octet octet) (bit_and (get_or table octet 0) SYMBOL_BITS) (entry_disparity rd (get_or SYMBOLS_AT_MINUS octet 0))
-from_table rd table h octet small =
-    is_symbol_entry-true rd octet (get_or table octet 0) (get_or SYMBOLS_AT_MINUS octet 0) small
-    (at_octet (λ k. is_symbol_entry rd k (get_or table k 0) (get_or SYMBOLS_AT_MINUS k 0)) h octet small)
+-- The entries of a disparity pass, where the entries at negative disparity tell the disparity after a symbol.
+passes_at : Rd → ℕ → Bool
+passes_at rd octet = is_symbol_entry rd octet (get_or SYMBOLS (256 * rd_number rd + octet) 0) (get_or SYMBOLS octet 0)
 
-minus_passes : holds_of_octets (λ octet. is_symbol_entry Minus octet (get_or SYMBOLS_AT_MINUS octet 0) (get_or SYMBOLS_AT_MINUS octet 0)) ≡ true
-unfolding is_symbol_entry code_on_literals
-minus_passes = refl
+all_pass : (rd : Rd) → holds_of_octets (passes_at rd) ≡ true
+unfolding passes_at is_symbol_entry code_on_literals
+all_pass Minus = refl
+all_pass Plus = refl
 
-plus_passes : holds_of_octets (λ octet. is_symbol_entry Plus octet (get_or SYMBOLS_AT_PLUS octet 0) (get_or SYMBOLS_AT_MINUS octet 0)) ≡ true
-unfolding is_symbol_entry code_on_literals
-plus_passes = refl
-
-pub Spells-minus : (octet : ℕ) → octet < 256
-    → Spells Minus (Octet octet) (bit_and (get_or SYMBOLS_AT_MINUS octet 0) SYMBOL_BITS)
-    (entry_disparity Minus (get_or SYMBOLS_AT_MINUS octet 0))
-Spells-minus = from_table Minus SYMBOLS_AT_MINUS minus_passes
-
-pub Spells-plus : (octet : ℕ) → octet < 256
-    → Spells Plus (Octet octet) (bit_and (get_or SYMBOLS_AT_PLUS octet 0) SYMBOL_BITS)
-    (entry_disparity Plus (get_or SYMBOLS_AT_MINUS octet 0))
-Spells-plus = from_table Plus SYMBOLS_AT_PLUS plus_passes
+pub Spells-octet : (rd : Rd) (octet : ℕ) → octet < 256
+    → Spells rd (Octet octet) (bit_and (get_or SYMBOLS (256 * rd_number rd + octet) 0) SYMBOL_BITS) (entry_disparity rd (get_or SYMBOLS octet 0))
+unfolding passes_at
+Spells-octet rd octet small =
+    is_symbol_entry-true rd octet (get_or SYMBOLS (256 * rd_number rd + octet) 0) (get_or SYMBOLS octet 0) small (at_octet (passes_at rd) (all_pass rd) octet small)
 
 -- the entries of the comma
 pub Spells-comma_minus : Spells Minus Comma (bit_and COMMA_AT_MINUS SYMBOL_BITS) (entry_disparity Minus COMMA_AT_MINUS)

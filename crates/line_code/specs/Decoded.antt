@@ -45,6 +45,14 @@ is_comma_by _ = false
 unfoldable pub is_comma : ℕ → Bool
 is_comma bits = is_comma_by (decoded bits)
 
+abbrev pub is_octet_by : Option Char → Bool
+is_octet_by (Some (Octet octet)) = true
+is_octet_by _ = false
+
+-- whether a symbol spells an octet, and not the comma, at either disparity
+unfoldable pub is_octet : ℕ → Bool
+is_octet bits = is_octet_by (decoded bits)
+
 abbrev pub is_violation_by : Option Char → ℕ
 is_violation_by None = 1
 is_violation_by (Some ch) = 0

@@ -1,5 +1,5 @@
 -- How the entries of this project's own tables are laid out. No contract of a public call names them.
-use Rattle.std.specs.Prelude.{◌≡◌, ◌≤◌, ◌+◌, ◌*◌, ℕ, ◌/◌, ◌%◌, Bool, ◌==◌, if◌then◌else◌, bit_and, List, [], ◌∷◌, Option, Some, None}
+use Rattle.std.specs.Prelude.{◌≡◌, ◌≤◌, ◌+◌, ◌*◌, ℕ, ◌/◌, ◌%◌, Bool, ◌==◌, if◌then◌else◌, bit_and, true, false, List, [], ◌∷◌, Option, Some, None}
 use Rattle.line_code.specs.declared.characters.Char.{Char}
 use Rattle.line_code.specs.declared.characters.Char.TheVariants.{Octet, Comma}
 use Rattle.line_code.specs.declared.characters.Rd.{Rd}
@@ -12,6 +12,16 @@ use Rattle.line_code.specs.declared.tables.TheConstants.{CHANGES_DISPARITY}
 abbrev pub opposite : Rd → Rd
 opposite Minus = Plus
 opposite Plus = Minus
+
+-- a disparity as a number
+abbrev pub rd_number : Rd → ℕ
+rd_number Minus = 0
+rd_number Plus = 1
+
+-- whether a disparity is positive
+abbrev pub is_plus : Rd → Bool
+is_plus Minus = false
+is_plus Plus = true
 
 -- ---- an entry of the tables of symbols
 
@@ -40,6 +50,10 @@ is_spelled_at rd entry = violations_of rd entry == 0
 unfoldable pub is_comma_entry : ℕ → Bool
 is_comma_entry entry = entry / 16 % 2 == 1
 
+-- whether the symbol spells an octet
+unfoldable pub is_octet_entry : ℕ → Bool
+is_octet_entry entry = entry / 32 % 2 == 0
+
 -- the character of a symbol that is no violation at both disparities
 unfoldable pub entry_character : ℕ → Char
 entry_character entry = if is_comma_entry entry then Comma else Octet (entry / 256)
@@ -49,11 +63,6 @@ abbrev pub entry_decoded : ℕ → Option Char
 entry_decoded entry = if entry / 4 % 4 == 3 then None else Some (entry_character entry)
 
 -- ---- the marks of symbols
-
--- a disparity as a number
-abbrev pub rd_number : Rd → ℕ
-rd_number Minus = 0
-rd_number Plus = 1
 
 -- The marks of a symbol of these bits, each 1 or 0: whether the disparity after it is positive, whether it stays, and whether
 -- the symbol is a violation at negative and at positive disparity.

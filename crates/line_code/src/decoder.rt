@@ -4,11 +4,12 @@ ghost use Rattle.std.specs.Prelude.{◌≡◌, ℕ, ◌↔◌, IsNone, Some};
 ghost use Rattle.line_code.specs.declared.characters.Char.{Char};
 ghost use Rattle.line_code.specs.declared.characters.Rd.{Rd};
 ghost use Rattle.line_code.specs.Code.{Spells, IsCheckOf, disparity_by_ones};
-ghost use Rattle.line_code.specs.Decoded.{spelled_at, with_next, decoded, octet_of, is_comma};
+ghost use Rattle.line_code.specs.Decoded.{spelled_at, with_next, decoded, octet_of, is_comma, is_octet};
 
 use crate::characters::{Char, Rd, Symbol};
 use crate::tables::{
-    SPELLED, character_of_entry, disparity_past, is_comma_entry, octet_of_entry, violations_of,
+    SPELLED, character_of_entry, disparity_past, is_comma_entry, is_octet_entry, octet_of_entry,
+    violations_of,
 };
 
 /// The character that a symbol spells at the disparity `rd`, with the disparity after it.
@@ -57,6 +58,14 @@ pub fn is_comma(sym: Symbol) -> bool
     ensures { result ≡ is_comma sym.bits }
 {
     is_comma_entry(SPELLED[sym.bits as usize])
+}
+
+/// Whether a symbol spells an octet at either disparity. The comma is none.
+#[inline]
+pub fn is_octet(sym: Symbol) -> bool
+    ensures { result ≡ is_octet sym.bits }
+{
+    is_octet_entry(SPELLED[sym.bits as usize])
 }
 
 /// The disparity after a symbol, whether or not it spells a character.

@@ -7,8 +7,7 @@ ghost use Rattle.line_code.specs.Code.{Spells};
 
 use crate::characters::{Char, Rd, Symbol};
 use crate::tables::{
-    COMMA_AT_MINUS, COMMA_AT_PLUS, SYMBOL_BITS, SYMBOLS_AT_MINUS, SYMBOLS_AT_PLUS,
-    disparity_of_entry,
+    COMMA_AT_MINUS, COMMA_AT_PLUS, SYMBOL_BITS, SYMBOLS, disparity_of_entry, number_of,
 };
 
 /// The symbol that spells a character at the disparity `rd`, and the disparity after it.
@@ -30,16 +29,12 @@ pub fn encode(rd: Rd, ch: Char) -> (Symbol, Rd)
 fn encode_octet(rd: Rd, octet: u8) -> (Symbol, Rd)
     ensures { Spells rd (Octet octet) result.0.bits result.1 }
 {
-    let at_minus = SYMBOLS_AT_MINUS[octet as usize];
-    let at_plus = SYMBOLS_AT_PLUS[octet as usize];
-    let entry = match rd {
-        Rd::Minus => at_minus,
-        Rd::Plus => at_plus,
-    };
+    let turning = SYMBOLS[octet as usize];
+    let entry = SYMBOLS[256 * number_of(rd) as usize + octet as usize];
     let sym = Symbol {
         bits: entry & SYMBOL_BITS,
     };
-    (sym, disparity_of_entry(rd, at_minus))
+    (sym, disparity_of_entry(rd, turning))
 }
 
 // The symbol of the comma.

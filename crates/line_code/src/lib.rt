@@ -11,7 +11,7 @@ mod reading;
 mod tables;
 
 pub use characters::{Char, Rd, Symbol};
-pub use decoder::{check, decode, is_comma, octet_of, rd_after};
+pub use decoder::{check, decode, is_comma, is_octet, octet_of, rd_after};
 pub use encoder::encode;
 pub use laws::{
     check_along_characters, check_along_frames, spelled_disparity_by_ones, spelled_in_ten_bits,

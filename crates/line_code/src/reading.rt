@@ -2,7 +2,7 @@
 
 ghost use Rattle.std.specs.Prelude.{◌≡◌, ◌+◌, ◌*◌, ◌/◌, ◌%◌, ◌^◌, ◌<◌, ◌≤◌, [], ◌∷◌, length, drop, map, slice_index, IfSome};
 ghost use Rattle.line_code.specs.Code.{disparity_by_ones};
-ghost use Rattle.line_code.specs.Tables.{AreMarkedBy, rd_number};
+ghost use Rattle.line_code.specs.Tables.{AreMarkedBy};
 ghost use Rattle.line_code.specs.Clean.{IsClean};
 ghost use Rattle.line_code.specs.Packed.{word_at, four_symbols, sixteen_symbols, symbols_in};
 ghost use Rattle.line_code.specs.Decoded.{spelled_at, is_violation_by, violations_in, disparity_along, octet_of};
@@ -10,7 +10,7 @@ ghost use Rattle.line_code.specs.Decoded.{spelled_at, is_violation_by, violation
 use crate::characters::{Rd, Symbol};
 use crate::decoder::octet_of;
 use crate::packing::{four_symbols, word_at};
-use crate::tables::{MARKS, SPELLED, disparity_past, violations_of};
+use crate::tables::{MARKS, SPELLED, disparity_past, number_of, violations_of};
 
 /// The octets that have four symbols.
 const GROUP: usize = 5;
@@ -135,17 +135,6 @@ fn marks_of_sixteen(octets: &[u8], at: usize) -> u64
     let third = marks_of_four(long_word_at(octets, at + 10));
     let fourth = marks_of_four(long_word_at(octets, at + 12) / 16_777_216);
     first + 16 * second + 256 * (third + 16 * fourth)
-}
-
-/// A disparity as a number.
-#[inline]
-fn number_of(disparity: Rd) -> u64
-    ensures { result ≡ rd_number disparity }
-{
-    match disparity {
-        Rd::Minus => 0,
-        Rd::Plus => 1,
-    }
 }
 
 /// The disparity after sixteen symbols of these marks, where none of them is a violation. A symbol hands on the disparity before
