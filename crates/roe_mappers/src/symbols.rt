@@ -4,7 +4,7 @@ ghost use Rattle.line_code.specs.Decoded.{decoded, octet_of};
 ghost use Rattle.line_code.specs.Packed.{four_symbols, symbols_in, word_at};
 ghost use Rattle.roe_mappers.specs.Symbols.{first_bad_symbol, is_bad_symbol, other_by, others_in};
 
-use line_code::{Char, Symbol, decode, four_symbols, symbol_at};
+use line_code::{Char, Symbol, decode, four_symbols, is_octet, octet_of, symbol_at};
 
 // Reads the octets that the symbols of a part spell, the comma as BCh, and says how many symbols spell no octet.
 pub(crate) fn read_octets(part: &[u8], octets: &mut [u8]) -> u32
@@ -41,17 +41,21 @@ fn read_four(part: &[u8], at: usize) -> ([u8; 4], u32)
 
 // The octet that a symbol spells, the comma as BCh, and 1 where it spells no octet.
 #[inline]
-#[tactic(auto, unfolding(line_code::specs::Decoded::octet_of))]
 fn read(symbol: Symbol) -> (u8, u32)
     ensures octet { result.0 ≡ octet_of symbol.bits }
     ensures other { result.1 ≡ other_by (decoded symbol.bits) }
     ensures few { result.1 ≤ 1 }
 {
-    match decode(symbol) {
-        Some(Char::Octet(octet)) => (octet, 0),
-        Some(Char::Comma) => (0xbc, 1),
-        None => (0, 1),
-    }
+    (octet_of(symbol), other(symbol))
+}
+
+// 1 for a symbol that spells no octet.
+#[inline]
+fn other(symbol: Symbol) -> u32
+    ensures other { result ≡ other_by (decoded symbol.bits) }
+    ensures few { result ≤ 1 }
+{
+    if is_octet(symbol) { 0 } else { 1 }
 }
 
 // The first bad symbol of a part that carries frame n, of whose symbols so many spell no octet.
