@@ -1,12 +1,11 @@
 -- How the entries of this project's own tables are laid out. No contract of a public call names them.
-use Rattle.std.specs.Prelude.{◌≡◌, ◌≤◌, ◌+◌, ◌*◌, ℕ, ◌/◌, ◌%◌, Bool, ◌==◌, if◌then◌else◌, bit_and, true, false, List, [], ◌∷◌, Option, Some, None}
+use Rattle.std.specs.Prelude.{◌≡◌, ◌≤◌, ◌+◌, ◌*◌, ℕ, ◌/◌, ◌%◌, Bool, ◌==◌, if◌then◌else◌, true, false, List, [], ◌∷◌, Option, Some, None}
 use Rattle.line_code.specs.declared.characters.Char.{Char}
 use Rattle.line_code.specs.declared.characters.Char.TheVariants.{Octet, Comma}
 use Rattle.line_code.specs.declared.characters.Rd.{Rd}
 use Rattle.line_code.specs.declared.characters.Rd.TheVariants.{Minus, Plus}
 use Rattle.line_code.specs.Code.{disparity_by_ones}
 use Rattle.line_code.specs.Decoded.{spelled_at, is_violation_by}
-use Rattle.line_code.specs.declared.tables.TheConstants.{CHANGES_DISPARITY}
 
 -- the other disparity
 abbrev pub opposite : Rd → Rd
@@ -23,11 +22,9 @@ abbrev pub is_plus : Rd → Bool
 is_plus Minus = false
 is_plus Plus = true
 
--- ---- an entry of the tables of symbols
-
--- the disparity after the symbol of an entry
-unfoldable pub entry_disparity : Rd → ℕ → Rd
-entry_disparity rd entry = if bit_and entry CHANGES_DISPARITY == 0 then rd else opposite rd
+-- the disparity after a symbol that turns it, or leaves it
+abbrev pub turned : Rd → Bool → Rd
+turned rd turns = if turns then opposite rd else rd
 
 -- ---- an entry of the table of what symbols spell
 

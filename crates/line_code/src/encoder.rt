@@ -6,9 +6,7 @@ ghost use Rattle.line_code.specs.declared.characters.Rd.{Rd};
 ghost use Rattle.line_code.specs.Code.{Spells};
 
 use crate::characters::{Char, Rd, Symbol};
-use crate::tables::{
-    COMMA_AT_MINUS, COMMA_AT_PLUS, SYMBOL_BITS, SYMBOLS, disparity_of_entry, number_of,
-};
+use crate::tables::{COMMA_AT_MINUS, COMMA_AT_PLUS, SYMBOLS, TURNS, number_of, turned};
 
 /// The symbol that spells a character at the disparity `rd`, and the disparity after it.
 #[inline]
@@ -29,24 +27,17 @@ pub fn encode(rd: Rd, ch: Char) -> (Symbol, Rd)
 fn encode_octet(rd: Rd, octet: u8) -> (Symbol, Rd)
     ensures { Spells rd (Octet octet) result.0.bits result.1 }
 {
-    let turning = SYMBOLS[octet as usize];
-    let entry = SYMBOLS[256 * number_of(rd) as usize + octet as usize];
-    let sym = Symbol {
-        bits: entry & SYMBOL_BITS,
-    };
-    (sym, disparity_of_entry(rd, turning))
+    let bits = SYMBOLS[256 * number_of(rd) as usize + octet as usize];
+    (Symbol { bits }, turned(rd, TURNS[octet as usize]))
 }
 
-// The symbol of the comma.
+// The symbol of the comma, which turns the disparity.
 fn encode_comma(rd: Rd) -> (Symbol, Rd)
     ensures { Spells rd Comma result.0.bits result.1 }
 {
-    let entry = match rd {
+    let bits = match rd {
         Rd::Minus => COMMA_AT_MINUS,
         Rd::Plus => COMMA_AT_PLUS,
     };
-    let sym = Symbol {
-        bits: entry & SYMBOL_BITS,
-    };
-    (sym, disparity_of_entry(rd, entry))
+    (Symbol { bits }, turned(rd, true))
 }

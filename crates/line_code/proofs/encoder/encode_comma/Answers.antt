@@ -5,6 +5,6 @@ use Rattle.line_code.proofs.encoder.encode_comma.Goals as goal
 pub returns : goal.returns
 returns c =
     elim c.match-rd.branch [
-      | in-Minus w ↦ rw (c.disparity_of_entry.ensures, w.entry-is, w.in-Minus.is) Spells-comma_minus
-      | in-Plus w ↦ rw (c.disparity_of_entry.ensures, w.entry-is, w.in-Plus.is) Spells-comma_plus
+      | in-Minus w ↦ rw (c.turned.ensures, w.bits-is, w.in-Minus.is) Spells-comma_minus
+      | in-Plus w ↦ rw (c.turned.ensures, w.bits-is, w.in-Plus.is) Spells-comma_plus
     ]
