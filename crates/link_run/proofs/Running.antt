@@ -28,7 +28,7 @@ of_no_form shelf sink =
 plays_capture : SamplesAreDelayed → (plan capture : List ℕ) (held : Files) (sink sink' : Taken) → ReplaysCapture plan capture held sink sink' → PlaysCapture plan capture held sink sink'
 plays_capture delayed plan capture held sink sink' all = record {
   replays = all;
-  plays = λ σ stream unaltered fresh. delayed all.p all.h σ all.records all.good (IsPlain-plan_of all.octets all.p all.is_plan) stream unaltered fresh;
+  plays = λ σ stream unaltered fresh. delayed all.p all.header.run_ticks σ all.records all.good (IsPlain-plan_of all.octets all.p all.is_plan) stream unaltered fresh;
 }
 
 -- what a call of these words promises

@@ -11,5 +11,5 @@ use Rattle.link_sender.specs.Stream.{Stream, IsStream}
 -- printed unchanged after its delay, or marked where packets that carry a bit of it are lost.
 pub record PlaysCapture (plan capture : List ℕ) (held : Files) (old new : Taken) : Type 0 where
   pub replays : ReplaysCapture plan capture held old new
-  pub plays : (σ : Stream) → IsStream replays.p replays.h σ → AreUnaltered replays.p replays.h σ replays.records → AreFresh replays.p replays.h σ replays.records
-      → PlaysStream replays.p replays.h σ replays.records (all_entries replays.p replays.h replays.records)
+  pub plays : (σ : Stream) → IsStream replays.p replays.header.run_ticks σ → AreUnaltered replays.p replays.header.run_ticks σ replays.records → AreFresh replays.p replays.header.run_ticks σ replays.records
+      → PlaysStream replays.p replays.header.run_ticks σ replays.records (all_entries replays.p replays.header.run_ticks replays.records)

@@ -1,36 +1,76 @@
--- The feed of a capture: the length of a run, and the octets that arrived at its ticks. Its form is this project's own.
+-- The feed of a capture: the length of a run, the channels that its control words announce, and the octets that arrived at its
+-- ticks. Its form is this project's own.
 use Rattle.std.specs.Prelude.{codes, bytes_eq, ℕ, ◌^◌, nat_le, List, Option, Some, None, Result, Ok, Err, if◌then◌else◌}
+use Rattle.control_words.specs.Announcement.{announcement_of}
+use Rattle.control_words.specs.declared.announce.Announce.{Announce}
 use Rattle.link_text.specs.Decimals.{decimal_value}
 use Rattle.link_text.specs.Hexadecimal.{spelled_octets}
 use Rattle.link_base.specs.Record.{Record}
+use Rattle.link_run_capture.specs.declared.header.Header.{Header}
+use Rattle.link_run_capture.specs.declared.header.Version.{Version}
+use Rattle.link_run_capture.specs.declared.header.Version.TheVariants.{One, Two}
 use Rattle.link_run_feed.specs.declared.reason.Reason.{Reason}
 use Rattle.link_run_feed.specs.declared.reason.Reason.TheVariants.{Number, Hex}
 use Rattle.link_text.specs.Fields.{at_first_space}
 
 -- the greatest length of a run, in ticks
-abbrev pub longest_run : ℕ
-longest_run = 4096
+abbrev pub longest_run : Version → ℕ
+longest_run One = 4096
+longest_run Two = 2 ^ 40
 
 -- the greatest tick of a record
 abbrev pub latest_tick : ℕ
 latest_tick = 2 ^ 40
 
 -- the greatest number of records
-abbrev pub most_records : ℕ
-most_records = 65_536
+abbrev pub most_records : Version → ℕ
+most_records One = 65_536
+most_records Two = 2 ^ 40
 
 -- a number, if it is at most this one
 abbrev pub at_most : ℕ → Option ℕ → Option ℕ
 at_most most None = None
 at_most most (Some n) = if nat_le n most then Some n else None
 
-abbrev pub length_in : Option (List ℕ × List ℕ) → Option ℕ
-length_in None = None
-length_in (Some fields) = if bytes_eq fields.0 (codes "capture") then at_most longest_run (decimal_value fields.1) else None
+-- what control words announce that carry no management channel
+abbrev pub no_channels : Announce
+no_channels = record { version = 1; hdlc = 0; pointer = 0; l1 = 0 }
 
--- the length of the run that a header gives, if the line is one: `capture H`
-unfoldable pub capture_length : List ℕ → Option ℕ
-capture_length line = length_in (at_first_space line)
+-- by the length of the run
+abbrev pub first_version : Option ℕ → Option Header
+first_version None = None
+first_version (Some run_ticks) = Some (record { version = One; run_ticks = run_ticks; announce = no_channels })
+
+-- by the length of the run and what is announced
+abbrev pub second_version : ℕ → Option Announce → Option Header
+second_version run_ticks None = None
+second_version run_ticks (Some a) = Some (record { version = Two; run_ticks = run_ticks; announce = a })
+
+-- by the length of the run, the HDLC rate code and the pointer, in words of so many octets
+abbrev pub with_channels : ℕ → Option ℕ → Option ℕ → Option ℕ → Option Header
+with_channels width None hdlc pointer = None
+with_channels width (Some run_ticks) None pointer = None
+with_channels width (Some run_ticks) (Some hdlc) None = None
+with_channels width (Some run_ticks) (Some hdlc) (Some pointer) = second_version run_ticks (announcement_of width hdlc pointer)
+
+abbrev pub with_fields : ℕ → List ℕ → Option (List ℕ × List ℕ) → Option Header
+with_fields width run None = None
+with_fields width run (Some channels) =
+    with_channels width (at_most (longest_run Two) (decimal_value run)) (at_most 255 (decimal_value channels.0)) (at_most 255 (decimal_value channels.1))
+
+abbrev pub with_run : ℕ → Option (List ℕ × List ℕ) → Option Header
+with_run width None = None
+with_run width (Some fields) = with_fields width fields.0 (at_first_space fields.1)
+
+abbrev pub with_word : ℕ → Option (List ℕ × List ℕ) → Option Header
+with_word width None = None
+with_word width (Some fields) =
+    if bytes_eq fields.0 (codes "capture") then first_version (at_most (longest_run One) (decimal_value fields.1)) else
+    (if bytes_eq fields.0 (codes "capture2") then with_run width (at_first_space fields.1) else None)
+
+-- what a header says, if the line is one: `capture H`, or `capture2 H HDLC POINTER` in words of so many octets
+unfoldable pub header_of : ℕ → List ℕ → Option Header
+header_of width line = with_word width (at_first_space line)
 
 abbrev pub record_by : Option ℕ → Option (List ℕ) → Result Record Reason
 record_by None octets = Err Number

@@ -1,14 +1,11 @@
-// The lines of a capture.
-ghost use Rattle.std.specs.Prelude.{◌≡◌, ◌≤◌, length, take, IfOk, IfErr, IfSome, IfNone, Some, None, Ok, Err};
+// The records of a capture.
+ghost use Rattle.std.specs.Prelude.{◌≡◌, ◌≤◌, length, take, IfOk, IfErr, Ok, Err};
 ghost use Rattle.link_text.specs.Decimals.{decimal_value};
 ghost use Rattle.link_text.specs.Hexadecimal.{spelled_octets};
-ghost use Rattle.link_run_capture.specs.Capture.{at_most, latest_tick, record_by, capture_length, record_of};
+ghost use Rattle.link_run_capture.specs.Capture.{at_most, latest_tick, record_by, record_of};
 
 use link_run_feed::Reason;
 use link_text::{at_first_space, decimal, octets};
-
-/// The greatest number of ticks of a run.
-const LONGEST_RUN: u64 = 4096;
 
 /// The greatest tick of a record.
 const LATEST_TICK: u64 = 1 << 40;
@@ -21,19 +18,6 @@ pub const MOST_OCTETS: usize = 2048;
 pub struct Arrival {
     pub tick: u64,
     pub length: usize,
-}
-
-/// The length of the run, if the line is a header: `capture H`.
-pub fn capture_length(line: &[u8]) -> Option<u64>
-    ensures some { IfSome result (λ ticks. capture_length line.now ≡ Some ticks) }
-    ensures few { IfSome result (λ ticks. ticks ≤ 4096) }
-    ensures none { IfNone result (capture_length line.now ≡ None) }
-{
-    let (word, ticks) = at_first_space(line)?;
-    if word != b"capture".as_slice() {
-        return None;
-    }
-    decimal(ticks, LONGEST_RUN)
 }
 
 // Reads the two fields of a record, and puts its octets to the front of `into`.

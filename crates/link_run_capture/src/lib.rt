@@ -2,8 +2,10 @@
 #![tactic(auto)]
 
 mod capture;
+mod header;
 
-pub use capture::{Arrival, MOST_OCTETS, capture_length, read_record};
+pub use capture::{Arrival, MOST_OCTETS, read_record};
+pub use header::{Header, Version, read_header};
 
 #[cfg(test)]
 mod tests;

@@ -4,3 +4,4 @@ pub mod WordPlaces
 pub mod Giving
 pub mod Follows
 pub mod Reading
+pub mod Silence

@@ -1,4 +1,4 @@
--- The entries that leave at some ticks, one tick after another, and their lines.
+-- The text of some ticks, one tick after another, and the lines of samples and flows.
 use Rattle.std.proofs.Common.{inl, inr, ◌≡◌, ◌∙◌, ◌+◌, ◌-◌, ◌≤◌, ◌<◌, ◌==◌, if◌then◌else◌, ◌++◌, ◌∷◌, [], ℕ, List, length, Option, Some, None, sym, ap, subst, refl, arith, pos, add-one, append_assoc, append-nil}
 use Rattle.std.specs.Prelude.{slice_get}
 use Rattle.std.specs.List.{flat_map, range_with_len}
@@ -16,78 +16,75 @@ use Rattle.link_receiver.specs.Runs.{entries_of_before, entries_of_run, entry_of
 use Rattle.link_receiver.specs.Received.{taken}
 use Rattle.link_base.specs.Record.{Record}
 use Rattle.link_text.specs.Gathered.{Gathers, BreaksOff}
-use Rattle.link_run_replay.specs.EntryLines.{entry_lines, entry_line, entries_between, flow_line, line_of_flow}
+use Rattle.link_run_replay.specs.EntryLines.{entry_lines, entry_line, flow_line, line_of_flow}
+use Rattle.link_run_replay.specs.RunText.{tick_text, text_between}
+use Rattle.control_words.specs.declared.announce.Announce.{Announce}
 use Rattle.link_run_entries.specs.SampleLines.{run_lines, sample_line, value_of_run}
 use Rattle.sample_bits.specs.declared.iq.RawIq.{RawIq}
 use Rattle.link_text.proofs.GatheredLines.{range_split}
 use Rattle.link_receiver.proofs.Ranges.{flat_map-range}
 use Rattle.link_text.proofs.Gathering.{gathers_none, gathers_then, breaks_then, front_of_more}
 
-module _ (p : Plan) (h : ℕ) (records : List Record) where
-  pub between_none : (from to : ℕ) → to ≤ from → entries_between p h records from to ≡ []
-  unfolding entries_between
+module _ (p : Plan) (h : ℕ) (a : Announce) (records : List Record) where
+  pub between_none : (from to : ℕ) → to ≤ from → text_between p h a records from to ≡ []
+  unfolding text_between
   between_none from to past =
       let none : to - from ≡ 0 = omega arith in
-      ap (λ n. flat_map (entries_at p h records) (range_with_len from n)) none
+      ap (λ n. flat_map (tick_text p h a records) (range_with_len from n)) none
 
   -- the ticks as far as one in the middle, and those from there on
-  pub between_split : (from mid to : ℕ) → from ≤ mid → mid ≤ to → entries_between p h records from to ≡ entries_between p h records from mid ++ entries_between p h records mid to
-  unfolding entries_between
+  pub between_split : (from mid to : ℕ) → from ≤ mid → mid ≤ to → text_between p h a records from to ≡ text_between p h a records from mid ++ text_between p h a records mid to
+  unfolding text_between
   between_split from mid to first second =
       let all : to - from ≡ (mid - from) + (to - mid) = omega arith in
       let there : from + (mid - from) ≡ mid = omega arith in
-      ap (λ n. flat_map (entries_at p h records) (range_with_len from n)) all
-      ∙ ap (flat_map (entries_at p h records)) (range_split from (mid - from) (to - mid) ∙ ap (λ b. range_with_len from (mid - from) ++ range_with_len b (to - mid)) there)
-      ∙ flat_map-append (entries_at p h records) (range_with_len from (mid - from)) (range_with_len mid (to - mid))
+      ap (λ n. flat_map (tick_text p h a records) (range_with_len from n)) all
+      ∙ ap (flat_map (tick_text p h a records)) (range_split from (mid - from) (to - mid) ∙ ap (λ b. range_with_len from (mid - from) ++ range_with_len b (to - mid)) there)
+      ∙ flat_map-append (tick_text p h a records) (range_with_len from (mid - from)) (range_with_len mid (to - mid))
 
-  pub between_one : (tick next : ℕ) → next ≡ tick + 1 → entries_between p h records tick next ≡ entries_at p h records tick
-  unfolding entries_between
+  pub between_one : (tick next : ℕ) → next ≡ tick + 1 → text_between p h a records tick next ≡ tick_text p h a records tick
+  unfolding text_between
   between_one tick next is =
       let one : next - tick ≡ 1 = omega arith in
-      ap (λ n. flat_map (entries_at p h records) (range_with_len tick n)) one ∙ append-nil (entries_at p h records tick)
-
-  pub lines_split : (from mid to : ℕ) → from ≤ mid → mid ≤ to
-      → entry_lines (entries_between p h records from to) ≡ entry_lines (entries_between p h records from mid) ++ entry_lines (entries_between p h records mid to)
-  lines_split from mid to first second =
-      ap entry_lines (between_split from mid to first second) ∙ flat_map-append entry_line (entries_between p h records from mid) (entries_between p h records mid to)
+      ap (λ n. flat_map (tick_text p h a records) (range_with_len tick n)) one ∙ append-nil (tick_text p h a records tick)
 
   -- no tick was played yet
-  pub gathers_begun : (tick : ℕ) (hand : List ℕ) (sink : Taken) → Gathers (entry_lines (entries_between p h records tick tick)) hand sink hand sink
+  pub gathers_begun : (tick : ℕ) (hand : List ℕ) (sink : Taken) → Gathers (text_between p h a records tick tick) hand sink hand sink
   gathers_begun tick hand sink =
       let past : tick ≤ tick = omega arith in
-      subst (λ es. Gathers (entry_lines es) hand sink hand sink) (sym (between_none tick tick past)) (gathers_none hand sink)
+      subst (λ text. Gathers text hand sink hand sink) (sym (between_none tick tick past)) (gathers_none hand sink)
 
-  -- the entries of a tick more were gathered
+  -- the text of a tick more was gathered
   pub gathers_tick : (from tick next : ℕ) (hand hand1 hand2 : List ℕ) (old mid new : Taken) → from ≤ tick → next ≡ tick + 1
-      → Gathers (entry_lines (entries_between p h records from tick)) hand old hand1 mid → Gathers (entry_lines (entries_at p h records tick)) hand1 mid hand2 new
-      → Gathers (entry_lines (entries_between p h records from next)) hand old hand2 new
+      → Gathers (text_between p h a records from tick) hand old hand1 mid → Gathers (tick_text p h a records tick) hand1 mid hand2 new
+      → Gathers (text_between p h a records from next) hand old hand2 new
   gathers_tick from tick next hand hand1 hand2 old mid new behind is first second =
       subst (λ text. Gathers text hand old hand2 new)
-      (ap (λ es. entry_lines (entries_between p h records from tick) ++ entry_lines es) (sym (between_one tick next is)) ∙ sym (lines_split from tick next behind (omega arith)))
+      (ap (λ text. text_between p h a records from tick ++ text) (sym (between_one tick next is)) ∙ sym (between_split from tick next behind (omega arith)))
       (gathers_then _ _ hand hand1 hand2 old mid new first second)
 
   -- a write failed at a tick
   pub breaks_tick : (from tick to : ℕ) (hand hand1 : List ℕ) (old mid new : Taken) → from ≤ tick → tick < to
-      → Gathers (entry_lines (entries_between p h records from tick)) hand old hand1 mid → BreaksOff (entry_lines (entries_at p h records tick)) hand1 mid new
-      → BreaksOff (entry_lines (entries_between p h records from to)) hand old new
+      → Gathers (text_between p h a records from tick) hand old hand1 mid → BreaksOff (tick_text p h a records tick) hand1 mid new
+      → BreaksOff (text_between p h a records from to) hand old new
   breaks_tick from tick to hand hand1 old mid new behind within first front =
-      let this = entry_lines (entries_at p h records tick) in
-      let rest = entry_lines (entries_between p h records (tick + 1) to) in
-      let split : entry_lines (entries_between p h records tick to) ≡ this ++ rest =
-      lines_split tick (tick + 1) to (omega arith) (omega arith) ∙ ap (λ es. entry_lines es ++ rest) (between_one tick (tick + 1) refl) in
+      let this = tick_text p h a records tick in
+      let rest = text_between p h a records (tick + 1) to in
+      let split : text_between p h a records tick to ≡ this ++ rest =
+      between_split tick (tick + 1) to (omega arith) (omega arith) ∙ ap (λ text. text ++ rest) (between_one tick (tick + 1) refl) in
       subst (λ text. BreaksOff text hand old new)
-      (ap (λ text. entry_lines (entries_between p h records from tick) ++ text) (sym split) ∙ sym (lines_split from tick to behind (omega arith)))
+      (ap (λ text. text_between p h a records from tick ++ text) (sym split) ∙ sym (between_split from tick to behind (omega arith)))
       (breaks_then _ (this ++ rest) hand hand1 old mid new first
       (subst (λ text. AppendsFront text mid new) (append_assoc hand1 this rest) (front_of_more (hand1 ++ this) rest mid new front)))
 
   -- where play ended
   pub gathers_to : (from now to : ℕ) (hand hand1 : List ℕ) (old new : Taken) → (from ≤ to → now ≡ to) → (to ≤ from → now ≡ from)
-      → Gathers (entry_lines (entries_between p h records from now)) hand old hand1 new → Gathers (entry_lines (entries_between p h records from to)) hand old hand1 new
+      → Gathers (text_between p h a records from now) hand old hand1 new → Gathers (text_between p h a records from to) hand old hand1 new
   gathers_to from now to hand hand1 old new ahead stays gathers = elim (cases_lt from to) [
-    | inl below ↦ subst (λ n. Gathers (entry_lines (entries_between p h records from n)) hand old hand1 new) (ahead (omega arith)) gathers
+    | inl below ↦ subst (λ n. Gathers (text_between p h a records from n) hand old hand1 new) (ahead (omega arith)) gathers
     | inr beyond ↦
         let here : now ≤ from = omega (arith, stays beyond) in
-        subst (λ es. Gathers (entry_lines es) hand old hand1 new) (between_none from now here ∙ sym (between_none from to beyond)) gathers
+        subst (λ text. Gathers text hand old hand1 new) (between_none from now here ∙ sym (between_none from to beyond)) gathers
   ]
 
 -- the items of lists, one list after another

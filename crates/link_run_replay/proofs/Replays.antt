@@ -44,7 +44,7 @@ module _ (plan capture : List ℕ) (held : Files) (sink sink' : Taken) where
           is_plan = is;
           good = good;
           feed = feed;
-          h = whole.h;
+          header = whole.header;
           records = whole.records;
           held_capture = there;
           is_capture = whole.capture;

@@ -6,7 +6,6 @@ use Rattle.carrier_plan.specs.declared.plan.Plan.{Plan}
 use Rattle.plan_checker.specs.Packets.{run_packets}
 use Rattle.link_base.specs.Record.{Record}
 use Rattle.link_receiver.specs.declared.entry.Entry.{Entry}
-use Rattle.link_receiver.specs.Output.{entries_at}
 use Rattle.link_receiver.specs.Received.{taken}
 use Rattle.link_text.specs.Printed.{lines_below}
 use Rattle.link_run_entries.specs.SampleLines.{sample_line}
@@ -17,10 +16,6 @@ entry_line entry = sample_line entry.tick entry.carrier entry.number entry.value
 
 abbrev pub entry_lines : List Entry → List ℕ
 entry_lines entries = flat_map entry_line entries
-
--- the entries of the ticks from one on, as far as below another
-unfoldable pub entries_between : Plan → ℕ → List Record → ℕ → ℕ → List Entry
-entries_between p h records from to = flat_map (entries_at p h records) (range_with_len from (to - from))
 
 -- how many packets of the flow at place f were received, and how many were missed
 unfoldable pub flow_line : (f taken packets : ℕ) → List ℕ

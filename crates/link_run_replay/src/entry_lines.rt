@@ -1,12 +1,11 @@
 // The samples that leave a session, and its flows, as text.
 ghost use Rattle.std.specs.Prelude.{◌≡◌, ◌+◌, ◌-◌, ◌<◌, ◌≤◌, ◌++◌, ◌∷◌, [], List, length, slice_get, Some, OnOk, OnErr};
 ghost use Rattle.link_base.specs.Faults.{HasCause};
-ghost use Rattle.plan_checker.specs.Run.{ticks_of_run};
 ghost use Rattle.link_receiver.specs.Output.{entries_at, entries_of};
 ghost use Rattle.link_base.specs.Record.{Record};
 ghost use Rattle.link_receiver.specs.Sessions.{StandsFor};
 ghost use Rattle.link_text.specs.Gathered.{Gathers, BreaksOff, text_capacity};
-ghost use Rattle.link_run_replay.specs.EntryLines.{entry_lines, entries_between, flow_line, flow_lines};
+ghost use Rattle.link_run_replay.specs.EntryLines.{entry_lines, flow_line, flow_lines};
 
 use link_base::{Failed, Sink};
 use link_receiver::{AnySession, Counts};
@@ -50,8 +49,8 @@ fn put_carrier(session: &AnySession, tick: &TickText, c: u32, text: &mut TextBuf
     );
 }
 
-// Appends the lines of the samples that left at tick `tick`, which was played last, of a plan of so many carriers.
-fn put_leaving<K: Sink>(
+/// Appends the lines of the samples that left at tick `tick`, which was played last, of a plan of so many carriers.
+pub fn put_leaving<K: Sink>(
     session: &AnySession,
     carriers: u32,
     tick: u64,
@@ -70,59 +69,6 @@ fn put_leaving<K: Sink>(
     for c in 0..carriers {
         match text.make_room(ROOM, out) {
             Ok(()) => put_carrier(session, &printed, c, text),
-            Err(failed) => return Err(failed),
-        }
-    }
-    Ok(())
-}
-
-// Plays the present tick, and appends the lines of its samples.
-fn play_tick<K: Sink>(
-    session: &mut AnySession,
-    carriers: u32,
-    text: &mut TextBuffer,
-    out: &mut K,
-) -> Result<(), Failed>
-    requires carriers { carriers ≡ length session.old.plan.carriers }
-    requires some { session.old.tick < ticks_of_run session.old.plan session.old.frames }
-    ensures plan { session.new.plan ≡ session.old.plan }
-    ensures frames { session.new.frames ≡ session.old.frames }
-    ensures tick { session.new.tick ≡ session.old.tick + 1 }
-    ensures stands { (records : List Record) → StandsFor session.old records → StandsFor session.new records }
-    ensures cause { HasCause (K.taken out.old).faults (K.taken out.new).faults result }
-    ensures puts { OnOk result ((records : List Record) → StandsFor session.old records
-        → Gathers (entry_lines (entries_at session.old.plan session.old.frames records session.old.tick)) text.old (K.taken out.old) text.new (K.taken out.new)) }
-    ensures fails { OnErr result ((records : List Record) → StandsFor session.old records
-        → BreaksOff (entry_lines (entries_at session.old.plan session.old.frames records session.old.tick)) text.old (K.taken out.old) (K.taken out.new)) }
-{
-    let tick = session.now();
-    session.play();
-    put_leaving(session, carriers, tick, text, out)
-}
-
-/// Plays the ticks before tick `end`, and appends the lines of their samples. The plan has so many carriers.
-pub fn play_to<K: Sink>(
-    session: &mut AnySession,
-    carriers: u32,
-    end: u64,
-    text: &mut TextBuffer,
-    out: &mut K,
-) -> Result<(), Failed>
-    requires carriers { carriers ≡ length session.old.plan.carriers }
-    requires end { end ≤ ticks_of_run session.old.plan session.old.frames }
-    ensures plan { session.new.plan ≡ session.old.plan }
-    ensures frames { session.new.frames ≡ session.old.frames }
-    ensures tick { OnOk result (session.old.tick ≤ end → session.new.tick ≡ end) }
-    ensures stands { (records : List Record) → StandsFor session.old records → StandsFor session.new records }
-    ensures cause { HasCause (K.taken out.old).faults (K.taken out.new).faults result }
-    ensures puts { OnOk result ((records : List Record) → StandsFor session.old records
-        → Gathers (entry_lines (entries_between session.old.plan session.old.frames records session.old.tick end)) text.old (K.taken out.old) text.new (K.taken out.new)) }
-    ensures fails { OnErr result ((records : List Record) → StandsFor session.old records
-        → BreaksOff (entry_lines (entries_between session.old.plan session.old.frames records session.old.tick end)) text.old (K.taken out.old) (K.taken out.new)) }
-{
-    while session.now() < end {
-        match play_tick(session, carriers, text, out) {
-            Ok(()) => {}
             Err(failed) => return Err(failed),
         }
     }

@@ -6,6 +6,7 @@ use std::alloc::Global;
 use std::process::Abort;
 use std::test::Fail;
 
+mod management;
 mod plans;
 
 const AMPLE: usize = 4096;

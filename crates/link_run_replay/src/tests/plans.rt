@@ -26,7 +26,7 @@ const COMPATIBLE: Change<'static> = (
 );
 
 /// Two carriers of eight samples in each basic frame of option 3, and four frames in a packet.
-const WIDE: [Change<'static>; 4] = [
+pub(super) const WIDE: [Change<'static>; 4] = [
     ("option = 1", "option = 3"),
     ("playout = 2", "playout = 33"),
     (

@@ -1,7 +1,7 @@
 use Rattle.std.proofs.Common.{◌<◌, subst, arith, length}
 use Rattle.plan_checker.specs.Rules.{IsGood}
 use Rattle.plan_checker.specs.Rules.Rule.{Counts}
-use Rattle.link_run_replay.proofs.capture_run.carriers_of.Goals as goal
+use Rattle.link_run_replay.proofs.player.carriers_of.Goals as goal
 
 pub overflow_cast-result : goal.overflow_cast-result
 overflow_cast-result c =
