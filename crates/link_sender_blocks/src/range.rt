@@ -1,0 +1,33 @@
+// Samples of a width.
+ghost use Rattle.std.specs.Prelude.{◌≤◌, ◌↔◌, All, IsTrue, MatchOption};
+ghost use Rattle.sample_bits.specs.SampleRate.{IsSampleWidth};
+ghost use Rattle.sample_bits.specs.Samples.{FitsBits, IsWithin};
+ghost use Rattle.link_sender_blocks.specs.Containers.{IsFirstOutside};
+
+use sample_bits::RawIq;
+
+/// The place of the first sample of which I or Q does not have `m` bits.
+pub fn first_outside(samples: &[RawIq], m: u32) -> Option<usize>
+    requires { IsSampleWidth m }
+    ensures { MatchOption result (All (IsWithin m) samples.now) (λ r. IsFirstOutside m samples.now r) }
+{
+    samples.iter().position(|sample| !is_within(*sample, m))
+}
+
+// Whether I and Q have `m` bits each.
+fn is_within(sample: RawIq, m: u32) -> bool
+    requires { IsSampleWidth m }
+    ensures { IsTrue result ↔ IsWithin m sample }
+{
+    fits(sample.i, m) && fits(sample.q, m)
+}
+
+// Whether the value has `width` bits.
+fn fits(value: i32, width: u32) -> bool
+    requires least { 1 ≤ width }
+    requires most { width ≤ 31 }
+    ensures { IsTrue result ↔ FitsBits width value }
+{
+    let limit = 1_i32 << (width - 1);
+    -limit <= value && value < limit
+}
