@@ -13,7 +13,7 @@ use Rattle.axc_sample_map.proofs.Places as sample_map
 use Rattle.axc_compatible_map.proofs.Places as compatible_map
 use Rattle.link_sender_blocks.specs.declared.mapping.Mapping.{Mapping}
 use Rattle.link_sender_blocks.specs.Containers.{PutsPieces, SendsContainer, container_bits, place_of_bit}
-use Rattle.link_sender_blocks.proofs.Pieces.{IsBeside, beside, iq_bit-piece}
+use Rattle.link_sender_blocks.proofs.Pieces.{beside, iq_bit-piece}
 use Rattle.link_sender_blocks.proofs.Pieces.IsBeside.{is_before, is_behind, is_inside}
 
 within_by : (method : Method) (m s k r b : ℕ) → IsSampleWidth m → IsSampleRate s k → r < s → b < 2 * m
@@ -28,19 +28,18 @@ frame_within w r b width rate low small = (within_by w.method w.m w.s w.k r b wi
 pub inside : (w : Mapping) (r b : ℕ) → IsSampleWidth w.m → IsSampleRate w.s w.k → r < w.s → b < 2 * w.m → (place_of_bit w r b).bit < container_bits w
 inside w r b width rate low small = (within_by w.method w.m w.s w.k r b width rate low small).1
 
-module _ (w : Mapping) (phase : ℕ) (block : List RawIq) (width : IsSampleWidth w.m) (rate : IsSampleRate w.s w.k) (old new : List ℕ) (base : ℕ) where
+module _ (w : Mapping) (phase : ℕ) (block : List RawIq) (width : IsSampleWidth w.m) (rate : IsSampleRate w.s w.k) (old new : List ℕ) where
   -- a container that is put where its one piece is
   pub sent_in_place : (pieces : List Piece) (d : Piece) → length pieces ≡ 1 → pieces_size pieces ≡ container_bits w
-      → PutsContainer w.m w.s (container_bits w) (place_of_bit w) phase (bit_of_sample block) old new (base + (get_or pieces 0 d).start)
-      → SendsContainer w phase block pieces old new base
+      → PutsContainer w.m w.s (container_bits w) (place_of_bit w) phase (bit_of_sample block) old new (get_or pieces 0 d).start
+      → SendsContainer w phase block pieces old new
   sent_in_place [] d one size puts = absurd (omega arith)
   sent_in_place (p ∷ []) d one size puts =
-      let at : ℕ = base + p.start in
-      let there : (x : ℕ) → x < container_bits w → base + iq_bit (p ∷ []) x ≡ at + x =
+      let at : ℕ = p.start in
+      let there : (x : ℕ) → x < container_bits w → iq_bit (p ∷ []) x ≡ at + x =
       λ x lt. (let zero : 0 + x ≡ x = omega arith in
       let bit = iq_bit-piece (p ∷ []) 0 x d (omega arith) (omega arith) in
-      let same : iq_bit (p ∷ []) x ≡ p.start + x = ap (iq_bit (p ∷ [])) (sym zero) ∙ bit in
-      omega arith) in
+      ap (iq_bit (p ∷ [])) (sym zero) ∙ bit) in
       record {
         same_length = puts.same_length;
         samples = λ r b low small here. ap (bit_of new) (there (place_of_bit w r b).bit (inside w r b width rate low small)) ∙ puts.samples r b low small here;
@@ -56,8 +55,8 @@ module _ (w : Mapping) (phase : ℕ) (block : List RawIq) (width : IsSampleWidth
   -- a container that is put together and then cut into its pieces
   pub sent_in_pieces : (pieces : List Piece) (before container : List ℕ) → pieces_size pieces ≡ container_bits w
       → PutsContainer w.m w.s (container_bits w) (place_of_bit w) phase (bit_of_sample block) before container 0
-      → PutsPieces container pieces old new base
-      → SendsContainer w phase block pieces old new base
+      → PutsPieces container pieces old new
+      → SendsContainer w phase block pieces old new
   sent_in_pieces pieces before container size puts cut =
       let zero : (x : ℕ) → x ≡ 0 + x = λ x. omega arith in
       record {

@@ -1,6 +1,6 @@
 -- The containers of a block in the pieces of a basic frame in which they stand (CPRI Specification V7.0, section 4.2.7.2). That
 -- a container may stand in pieces is this project's own.
-use Rattle.std.specs.Prelude.{ℕ, ◌≡◌, ◌+◌, ◌*◌, ◌<◌, List, length}
+use Rattle.std.specs.Prelude.{ℕ, ◌≡◌, ◌*◌, ◌<◌, List, length}
 use Rattle.std.specs.List.{HoldsAt}
 use Rattle.carrier_plan.specs.declared.plan.Carrier.{Carrier}
 use Rattle.carrier_plan.specs.declared.plan.Piece.{Piece}
@@ -25,24 +25,24 @@ container_bits w = size_by w.method w.m w.s w.k
 abbrev pub place_of_bit : Mapping → ℕ → ℕ → BlockPlace
 place_of_bit w r b = place_in_block w.method w.m w.s w.k r b
 
--- Bit k of the octets is in none of the pieces, whose starts count from bit `base` on.
-abbrev pub IsOutside : List Piece → (base k : ℕ) → Type 0
-IsOutside pieces base k = (b : ℕ) → b < pieces_size pieces → ¬ (k ≡ base + iq_bit pieces b)
+-- IQ bit k is in none of the pieces.
+abbrev pub IsOutside : List Piece → ℕ → Type 0
+IsOutside pieces k = (b : ℕ) → b < pieces_size pieces → ¬ (k ≡ iq_bit pieces b)
 
--- The bits of the container stand in the pieces of the new octets, whose starts count from bit `base` on. All others stay.
-pub record PutsPieces (container : List ℕ) (pieces : List Piece) (old new : List ℕ) (base : ℕ) : Type 0 where
+-- The bits of the container stand in the pieces of the new IQ data block. All others stay.
+pub record PutsPieces (container : List ℕ) (pieces : List Piece) (old new : List ℕ) : Type 0 where
   pub same_length : length new ≡ length old
-  pub copied : (b : ℕ) → b < pieces_size pieces → bit_of new (base + iq_bit pieces b) ≡ bit_of container b
-  pub others : (k : ℕ) → IsOutside pieces base k → bit_of new k ≡ bit_of old k
+  pub copied : (b : ℕ) → b < pieces_size pieces → bit_of new (iq_bit pieces b) ≡ bit_of container b
+  pub others : (k : ℕ) → IsOutside pieces k → bit_of new k ≡ bit_of old k
 
--- The container of this frame of a block stands in the pieces of the new octets, whose starts count from bit `base` on: the
--- bits of the samples at their places, and 0 elsewhere. All bits outside of the pieces stay.
-pub record SendsContainer (w : Mapping) (phase : ℕ) (block : List RawIq) (pieces : List Piece) (old new : List ℕ) (base : ℕ) : Type 0 where
+-- The container of this frame of a block stands in the pieces of the new IQ data block: the bits of the samples at their
+-- places, and 0 elsewhere. All bits outside of the pieces stay.
+pub record SendsContainer (w : Mapping) (phase : ℕ) (block : List RawIq) (pieces : List Piece) (old new : List ℕ) : Type 0 where
   pub same_length : length new ≡ length old
   pub samples : (r b : ℕ) → r < w.s → b < 2 * w.m → (place_of_bit w r b).phase ≡ phase
-      → bit_of new (base + iq_bit pieces (place_of_bit w r b).bit) ≡ bit_of_sample block r b
-  pub stuffing : (x : ℕ) → x < container_bits w → IsStuffed w.m w.s (place_of_bit w) phase x → bit_of new (base + iq_bit pieces x) ≡ 0
-  pub others : (k : ℕ) → IsOutside pieces base k → bit_of new k ≡ bit_of old k
+      → bit_of new (iq_bit pieces (place_of_bit w r b).bit) ≡ bit_of_sample block r b
+  pub stuffing : (x : ℕ) → x < container_bits w → IsStuffed w.m w.s (place_of_bit w) phase x → bit_of new (iq_bit pieces x) ≡ 0
+  pub others : (k : ℕ) → IsOutside pieces k → bit_of new k ≡ bit_of old k
 
 -- the place of the first sample of which I or Q does not have m bits
 pub record IsFirstOutside (m : ℕ) (samples : List RawIq) (r : ℕ) : Type 0 where

@@ -6,20 +6,18 @@ ghost use Rattle.link_sender_blocks.specs.Containers.{PutsPieces};
 use carrier_plan::Piece;
 use sample_bits::copy_bits;
 
-/// Copies a container, which stands from bit 0 of its octets on, into its pieces. Their starts count from bit `base` of the
-/// octets on.
-pub fn cut(container: &[u8], pieces: &[Piece], octets: &mut [u8], base: usize)
+/// Copies a container, which stands from bit 0 of its octets on, into its pieces of the IQ data block.
+pub fn cut(container: &[u8], pieces: &[Piece], octets: &mut [u8])
     requires source { pieces_size pieces.now ≤ 8 * length container.now }
     requires small { pieces_size pieces.now < 2 ^ 32 }
-    requires near { base < 2 ^ 32 }
-    requires within { All (λ p. base + p.start + p.size ≤ 8 * length octets.old) pieces.now }
+    requires within { All (λ p. p.start + p.size ≤ 8 * length octets.old) pieces.now }
     requires apart { AllPairs SharesNoBit pieces.now }
-    ensures { PutsPieces container.now pieces.now octets.old octets.new base }
+    ensures { PutsPieces container.now pieces.now octets.old octets.new }
 {
     let mut next = 0;
     for piece in pieces {
         let size = piece.size as usize;
-        copy_bits(container, next, octets, base + piece.start as usize, size);
+        copy_bits(container, next, octets, piece.start as usize, size);
         next += size;
     }
 }

@@ -73,38 +73,35 @@ impl SamplesInHand {
         self.taken = end as u32;
     }
 
-    /// Writes the container of the next frame into the pieces of the octets in which it stands. Their starts count from bit
-    /// `base` on. All other bits stay.
-    pub fn send(&mut self, pieces: &[Piece], octets: &mut [u8], base: usize)
+    /// Writes the container of the next frame into its pieces of the IQ data block. All other bits stay.
+    pub fn send(&mut self, pieces: &[Piece], octets: &mut [u8])
         requires size { pieces_size pieces.now ≡ container_bits self.old.mapping }
-        requires near { base < 2 ^ 32 }
-        requires within { All (λ p. base + p.start + p.size ≤ 8 * length octets.old) pieces.now }
+        requires within { All (λ p. p.start + p.size ≤ 8 * length octets.old) pieces.now }
         requires apart { AllPairs SharesNoBit pieces.now }
-        ensures container { SendsContainer self.old.mapping self.old.phase self.old.sent pieces.now octets.old octets.new base }
+        ensures container { SendsContainer self.old.mapping self.old.phase self.old.sent pieces.now octets.old octets.new }
         ensures next { self.new ≡ after_frame self.old }
     {
-        self.write(pieces, octets, base);
+        self.write(pieces, octets);
         self.advance();
     }
 
     // Writes the container of the next frame into its pieces.
-    fn write(&mut self, pieces: &[Piece], octets: &mut [u8], base: usize)
+    fn write(&mut self, pieces: &[Piece], octets: &mut [u8])
         requires size { pieces_size pieces.now ≡ container_bits self.old.mapping }
-        requires near { base < 2 ^ 32 }
-        requires within { All (λ p. base + p.start + p.size ≤ 8 * length octets.old) pieces.now }
+        requires within { All (λ p. p.start + p.size ≤ 8 * length octets.old) pieces.now }
         requires apart { AllPairs SharesNoBit pieces.now }
-        ensures container { SendsContainer self.old.mapping self.old.phase self.old.sent pieces.now octets.old octets.new base }
+        ensures container { SendsContainer self.old.mapping self.old.phase self.old.sent pieces.now octets.old octets.new }
         ensures same { self.new ≡ self.old }
     {
         let block = self.sent.as_slice();
         if let [piece] = pieces {
-            let at = base + piece.start as usize;
-            self.mapping.pack(block, self.phase, octets, at);
+            self.mapping
+                .pack(block, self.phase, octets, piece.start as usize);
             return;
         }
         let container = self.container.as_mut_slice();
         self.mapping.pack(block, self.phase, container, 0);
-        cut(container, pieces, octets, base);
+        cut(container, pieces, octets);
     }
 
     // Goes on to the next frame. After the last frame of a block the samples that were handed in are sent, with silence for

@@ -6,10 +6,11 @@ use sample_bits::RawIq;
 use std::alloc::Global;
 use std::test::Fail;
 
-// A sample of 15 bits in two frames, by method 1, with a container in one piece and in two.
+// A sample of 15 bits in two frames, by method 1, with a container in one piece and in two. Both frames of the first block are
+// silent, and the bits in no piece stay.
 #[test]
 #[tactic(auto, using(crate::proofs::Rates::usual_rates))]
-fn a_block_is_sent_after_it_was_handed_in(rt: HostRuntime) -> Result<(), Fail> {
+fn silence_is_sent_before_the_first_block(rt: HostRuntime) -> Result<(), Fail> {
     let mut pieces = PieceList::new(rt.alloc());
     pieces.push(Piece { start: 0, size: 16 })?;
     let carrier = Carrier {
@@ -23,9 +24,9 @@ fn a_block_is_sent_after_it_was_handed_in(rt: HostRuntime) -> Result<(), Fail> {
     hand.take(&[RawIq { i: 1, q: -1 }]);
     let one = [Piece { start: 0, size: 16 }];
     let two = [Piece { start: 8, size: 10 }, Piece { start: 0, size: 6 }];
-    let mut frame = [0x01, 0xff, 0xff, 0x80];
-    hand.send(&one, &mut frame, 8);
-    hand.send(&two, &mut frame, 8);
-    assert_eq!(&rt; frame, [0x01, 0xc0, 0x00, 0x80]);
+    let mut frame = [0xff, 0xff, 0xff, 0x80];
+    hand.send(&one, &mut frame);
+    hand.send(&two, &mut frame);
+    assert_eq!(&rt; frame, [0x00, 0x00, 0xfc, 0x80]);
     Ok(())
 }

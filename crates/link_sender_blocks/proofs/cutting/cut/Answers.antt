@@ -1,11 +1,10 @@
-use Rattle.std.proofs.Common.{◌≡◌, ℕ, ◌+◌, ◌-◌, length, get_or, take, sym, ap, ◌∙◌, arith, ⊎_elim}
+use Rattle.std.proofs.Common.{◌≡◌, ℕ, ◌+◌, ◌-◌, get_or, take, sym, ap, ◌∙◌, arith, ⊎_elim}
 use Rattle.std.proofs.lemmas.Bool.{cases_lt}
-use Rattle.std.proofs.lemmas.List.{take_all}
 use Rattle.carrier_plan.specs.declared.plan.Piece.{Piece}
 use Rattle.link_base.specs.Bits.{bit_of}
 use Rattle.plan_checker.specs.Container.{pieces_size}
 use Rattle.plan_checker.specs.Place.{iq_bit}
-use Rattle.link_sender_blocks.proofs.Pieces.{IsBeside, beside, earlier_apart, iq_bit-piece, pieces_size-more, pieces_size-within, pieces_size-whole}
+use Rattle.link_sender_blocks.proofs.Pieces.{beside, earlier_apart, iq_bit-piece, pieces_size-more, pieces_size-within, pieces_size-whole}
 use Rattle.link_sender_blocks.proofs.Pieces.IsBeside.{is_before, is_behind, is_inside}
 use Rattle.link_sender_blocks.proofs.cutting.cut.Goals as goal
 
@@ -16,8 +15,7 @@ loop-piece-preserved c =
     let none : Piece = record { start = 0; size = 0 } in
     let piece = get_or pieces i none in
     let before = pieces_size (take i pieces) in
-    let base : ℕ = c.args.base in
-    let at : ℕ = base + piece.start in
+    let at : ℕ = piece.start in
     let new = c.copy_bits.new.dst in
     let done = c.loop-piece.invariant in
     let more = pieces_size-more pieces i none (omega arith) in
@@ -28,7 +26,7 @@ loop-piece-preserved c =
       reached = omega arith;
       copied = λ b h. ⊎_elim
           (λ early.
-          let x : ℕ = base + iq_bit pieces b in
+          let x : ℕ = iq_bit pieces b in
           elim (beside at piece.size x) [
             | is_before lt ↦ copy.before x (omega arith) ∙ done.copied b early
             | is_behind le ↦ copy.after x (omega arith) ∙ done.copied b early
@@ -38,7 +36,7 @@ loop-piece-preserved c =
           let j : ℕ = b - before in
           let here : before + j ≡ b = omega arith in
           let bit : iq_bit pieces b ≡ piece.start + j = ap (iq_bit pieces) (sym here) ∙ iq_bit-piece pieces i j none (omega arith) (omega arith) in
-          let there : base + iq_bit pieces b ≡ at + j = omega arith in
+          let there : iq_bit pieces b ≡ at + j = bit in
           let from : c.loop-piece.next + j ≡ b = omega arith in
           ap (bit_of new) there ∙ copy.copied j (omega arith) ∙ ap (bit_of c.args.container.now) from)
           (cases_lt b before);
