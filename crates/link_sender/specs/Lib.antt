@@ -1,4 +1,10 @@
 pub mod Stream
+pub mod HandedIn
 pub mod Managed
+pub mod Channels
 pub mod Frames
 pub mod Packets
+pub mod Containers
+pub mod Rings
+pub mod Senders
+pub mod Laws

@@ -1,6 +1,6 @@
 -- The octets of the management channels in the control words of a run (CPRI Specification V7.0, sections 4.2.7.7.1 and
 -- 4.2.7.7.2). That the channels run on from basic frame 0 is this project's own.
-use Rattle.std.specs.Prelude.{ℕ, ◌+◌, ◌*◌, nat_lt, Bool, List, [], drop, count_by, sum_by, if◌then◌else◌}
+use Rattle.std.specs.Prelude.{ℕ, ◌+◌, ◌*◌, nat_lt, List, drop, count_by, sum_by, if◌then◌else◌}
 use Rattle.std.specs.List.{range_with_len}
 use Rattle.control_words.specs.Places.{is_fast_place, is_slow_place}
 use Rattle.control_words.specs.declared.announce.Announce.{Announce}

@@ -1,3 +1,17 @@
-//! What the packets of a sample stream are: the definitions of streams, of the basic frames that carry them, and of the
-//! packets that carry these.
+//! Basic frames and packets of the samples and management frames that are handed in.
+//!
+//! A run has a tick for each basic frame. Frame n carries the samples of blocks that were handed in before tick n, and a
+//! packet is ready `lmin` ticks after its last frame.
 #![tactic(auto)]
+
+mod channels;
+mod containers;
+mod laws;
+mod packet_ring;
+mod packets;
+mod range;
+mod sender;
+
+pub use laws::{frames_are_settled, packets_are_settled};
+pub use range::Range;
+pub use sender::Sender;
