@@ -15,3 +15,6 @@ mod sender;
 pub use laws::{frames_are_settled, packets_are_settled};
 pub use range::Range;
 pub use sender::Sender;
+
+#[cfg(test)]
+mod tests;
