@@ -3,7 +3,8 @@ use Rattle.std.proofs.Common.{◌≡◌, ℕ, zero, suc, ◌+◌, ◌-◌, ◌*�
 use Rattle.std.proofs.lemmas.Bool.{and_parts, eqb-true, eqb-false, leb-true}
 use Rattle.line_code.specs.declared.characters.Rd.{Rd}
 use Rattle.line_code.specs.declared.characters.Rd.TheVariants.{Minus, Plus}
-use Rattle.line_code.specs.declared.tables.TheConstants.{SPELLED, MARKS}
+use Rattle.line_code.specs.declared.tables.TheConstants.{SPELLED}
+use Rattle.line_code.specs.declared.marks.TheConstants.{MARKS}
 use Rattle.line_code.specs.Code.{disparity_by_ones}
 use Rattle.line_code.specs.Decoded.{spelled_at, is_violation_by}
 use Rattle.line_code.specs.Tables.{disparity_past, violations_of, rd_number, HasMarks, AreMarkedBy}

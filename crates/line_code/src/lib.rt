@@ -6,6 +6,7 @@ mod characters;
 mod decoder;
 mod encoder;
 mod laws;
+mod marks;
 mod packing;
 mod reading;
 mod tables;

@@ -9,8 +9,9 @@ ghost use Rattle.line_code.specs.Decoded.{spelled_at, is_violation_by, violation
 
 use crate::characters::{Rd, Symbol};
 use crate::decoder::octet_of;
+use crate::marks::MARKS;
 use crate::packing::{four_symbols, word_at};
-use crate::tables::{MARKS, SPELLED, disparity_past, number_of, violations_of};
+use crate::tables::{SPELLED, disparity_past, number_of, violations_of};
 
 /// The octets that have four symbols.
 const GROUP: usize = 5;
