@@ -1,4 +1,5 @@
 pub mod BeginSteps
+pub mod CarriedOnes
 pub mod ChannelSteps
 pub mod ContainerSteps
 pub mod GoodCarriers
@@ -7,6 +8,7 @@ pub mod HandSteps
 pub mod Items
 pub mod ManagedSteps
 pub mod ManagedWords
+pub mod OctetBits
 pub mod Openings
 pub mod PacketOctets
 pub mod PacketSteps
@@ -20,6 +22,11 @@ pub mod FrameSteps
 pub mod SampleSteps
 pub mod Search
 pub mod Settled
+pub mod Sizes
 pub mod Slots
 pub mod TickSteps
+pub mod WholeFrames
+pub mod WholePackets
+pub mod WholeParts
+pub mod WholeSettled
 pub mod WordSizes

@@ -46,7 +46,7 @@ stands_before p n x c j b good stands =
     let is = good_carrier p c carrier good stands.at in
     block_before j carrier.s carrier.k _ n is.rate.some_samples is.some_frames stands.frame
 
-carries_still : (p : Plan) (σ τ : Stream) (n x : ℕ) → IsGood p → AgreesBefore p n σ τ → CarriesOne p σ n x → CarriesOne p τ n x
+pub carries_still : (p : Plan) (σ τ : Stream) (n x : ℕ) → IsGood p → AgreesBefore p n σ τ → CarriesOne p σ n x → CarriesOne p τ n x
 carries_still p σ τ n x good agrees one =
     let stands = one.stands in
     let early = stands_before p n x one.carrier one.number one.place good stands in
@@ -58,7 +58,7 @@ carries_still p σ τ n x good agrees one =
       one = ap (λ s. sample_bit s one.place) (agrees.samples one.carrier stands.carrier one.number stands.at early) ∙ one.one;
     }
 
-back : (p : Plan) (σ τ : Stream) (n : ℕ) → AgreesBefore p n σ τ → AgreesBefore p n τ σ
+pub back : (p : Plan) (σ τ : Stream) (n : ℕ) → AgreesBefore p n σ τ → AgreesBefore p n τ σ
 back p σ τ n agrees = record {
   announcement = sym agrees.announcement;
   slow = sym agrees.slow;

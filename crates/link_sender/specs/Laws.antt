@@ -1,4 +1,5 @@
--- What later samples do not change of the frames and packets of a stream. This is the project's own.
+-- Of the frames and packets of a stream: what later samples do not change, and that no others are the stream's. This is the
+-- project's own.
 use Rattle.std.specs.Prelude.{ℕ, ◌≡◌, ◌+◌, ◌*◌, ◌/◌, ◌<◌, List, slice_get, Some}
 use Rattle.carrier_plan.specs.declared.plan.Carrier.{Carrier}
 use Rattle.carrier_plan.specs.declared.plan.Flow.{Flow}
@@ -7,6 +8,7 @@ use Rattle.plan_checker.specs.Rules.{IsGood}
 use Rattle.link_sender.specs.Frames.{IsFrame}
 use Rattle.link_sender.specs.Packets.{IsPacket}
 use Rattle.link_sender.specs.Stream.{Stream, sample_at}
+use Rattle.link_sender.specs.Whole.{frame_of, packet_of}
 
 -- Both streams have the samples of all blocks that are handed in before tick n, and the same channels.
 pub record AgreesBefore (p : Plan) (n : ℕ) (σ τ : Stream) : Type 0 where
@@ -23,3 +25,11 @@ FramesAreSettled = (p : Plan) (σ τ : Stream) (n : ℕ) (octets : List ℕ) →
 abbrev pub PacketsAreSettled : Type 0
 PacketsAreSettled =
     (p : Plan) (σ τ : Stream) (f : Flow) (i : ℕ) (octets : List ℕ) → IsGood p → AgreesBefore p ((i + 1) * f.frames) σ τ → IsPacket p σ f i octets → IsPacket p τ f i octets
+
+-- A frame of a stream has one spelling.
+abbrev pub FramesAreDetermined : Type 0
+FramesAreDetermined = (p : Plan) (σ : Stream) (n : ℕ) (octets : List ℕ) → IsGood p → IsFrame p σ n octets → octets ≡ frame_of p σ n
+
+-- A packet of a stream has one spelling.
+abbrev pub PacketsAreDetermined : Type 0
+PacketsAreDetermined = (p : Plan) (σ : Stream) (f : Flow) (i : ℕ) (octets : List ℕ) → IsGood p → IsPacket p σ f i octets → octets ≡ packet_of p σ f i

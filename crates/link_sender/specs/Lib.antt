@@ -8,3 +8,5 @@ pub mod Containers
 pub mod Rings
 pub mod Senders
 pub mod Laws
+pub mod WordSizes
+pub mod Whole

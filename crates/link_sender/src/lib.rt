@@ -11,10 +11,14 @@ mod packet_ring;
 mod packets;
 mod range;
 mod sender;
+mod word_sizes;
 
-pub use laws::{frames_are_settled, packets_are_settled};
+pub use laws::{
+    frames_are_determined, frames_are_settled, packets_are_determined, packets_are_settled,
+};
 pub use range::Range;
 pub use sender::Sender;
+pub use word_sizes::AnySender;
 
 #[cfg(test)]
 mod tests;

@@ -238,7 +238,7 @@ impl<const Y: usize> Sender<Y> {
 
     /// The frame that was made last. Before the first tick it is all 0.
     pub fn frame(&self) -> &Frame<Y>
-        ensures none { (σ : Stream) → StandsFor self.now σ → self.now.tick ≡ 0 → result.now ≡ replicate (16 * Y) 0 }
+        ensures none { (σ : Stream) → StandsFor self.now σ → self.now.tick ≡ 0 → result.now ≡ replicate (16 * word_size self.now.plan.option) 0 }
         ensures last { (σ : Stream) (n : ℕ) → StandsFor self.now σ → n + 1 ≡ self.now.tick → IsFrame self.now.plan σ n result.now }
     {
         &self.frame
