@@ -1,5 +1,5 @@
 -- The calls that read a feed, one after another.
-use Rattle.std.proofs.Common.{◌≡◌, ◌≢◌, ◌≤◌, ◌+◌, ◌⊎◌, inl, inr, ◌++◌, ◌∷◌, [], ℕ, List, length, arith, refl, sym, ap, subst, ◌∙◌, append_assoc, IsTrue, true, false, Some, None, Ok, Err, MatchOption, Bool}
+use Rattle.std.proofs.Common.{◌≡◌, ◌≢◌, ◌≤◌, ◌+◌, ◌⊎◌, inl, inr, ◌++◌, ◌∷◌, [], ℕ, List, length, arith, refl, sym, ap, subst, ◌∙◌, append_assoc, append-nil, IsTrue, true, false, Some, None, Ok, Err, MatchOption, Bool}
 use Rattle.std.specs.Prelude.{nat_lt, codes, bytes_eq}
 use Rattle.std.proofs.lemmas.Bool.{cond-true, cond-false, le-ltb}
 use Rattle.link_base.specs.Faults.{Rose}
@@ -22,7 +22,7 @@ use Rattle.link_run_feed.specs.Answer.{Answer}
 use Rattle.link_run_feed.specs.Given.{IsGiven}
 use Rattle.link_run_feed.specs.Reasons.{bad_line}
 use Rattle.link_run_feed.specs.Feed.{At, start, in_lines, ended, is_bad, Read, FeedForm, by_line, by_end, by_header, line_step, read_more, read_items, step_at, refused, answer_of, read_on, answer_on, is_good}
-use Rattle.link_run_feed.specs.FeedCalls.{GoesOn, IsStopped, Concludes}
+use Rattle.link_run_feed.specs.FeedCalls.{GoesOn, IsStopped, Concludes, after_last}
 use Rattle.link_run_feed.proofs.Folds.{IsOpen, in_front, with_front, items_in_front, answer_in_front, answer_grows, answer_on-line, read_on-rest, answer_on-bad, answer_on-unended, answer_on-long, answer_on-after, answer_on-done}
 use Rattle.link_run_feed.proofs.Counting.{given_behind}
 
@@ -89,6 +89,18 @@ module _ {S : Type 0} (form : FeedForm S) where
     rest = λ more. refl;
   }
 
+  -- text that is settled was gathered, and no line was read
+  pub goes_on_gathered : (at : At S) (number : ℕ) (settled hand hand' unread : List ℕ) (sink sink' : Taken) → Gathers settled hand sink hand' sink'
+      → GoesOn form (record { at = at; number = number; text = hand ++ settled }) unread sink at number hand' unread sink'
+  goes_on_gathered at number settled hand hand' unread sink sink' gathers = record {
+    moved = gathers.moved;
+    written = gathers.written;
+    given = [];
+    all = refl;
+    lines = λ more. ap (λ (t : List ℕ). read_items (step_at form) (record { at = at; number = number; text = t }) (lines_of more)) gathers.kept;
+    rest = λ more. refl;
+  }
+
   module _ (r : Read S) (at : At S) (number : ℕ) (hand unread unread' : List ℕ) (sink sink' : Taken) (on : GoesOn form r unread sink at number hand unread' sink') where
     read_on-goes : (more : List ℕ) → read_on form r (on.given ++ more) ≡ in_front on.moved (read_on form (record { at = at; number = number; text = hand }) more)
     unfolding read_on
@@ -134,6 +146,19 @@ module _ {S : Type 0} (form : FeedForm S) where
   pub concludes_here : (r : Read S) (unread : List ℕ) (shelf shelf' : Shown) (sink sink' : Taken) (result : Status) (answer : Answer)
       → answer_on form r unread ≡ answer → IsGiven answer.status answer.text sink sink' result → shelf'.chosen ≡ shelf.chosen → Concludes form r unread shelf shelf' sink sink' result
   concludes_here r unread shelf shelf' sink sink' result answer is given chosen = record { answer = answer; given = given; due = inl (sym is); chosen = chosen }
+
+  -- a write failed within the text that is settled
+  pub concludes_cut : (r : Read S) (unread : List ℕ) (shelf shelf' : Shown) (sink sink' : Taken) → AppendsFront r.text sink sink' → shelf'.chosen ≡ shelf.chosen
+      → sink.faults ≤ sink'.faults → Rose sink.faults sink'.faults → Concludes form r unread shelf shelf' sink sink' WriteFault
+  concludes_cut r unread shelf shelf' sink sink' front chosen never_falls rose =
+      let grows = answer_grows form r unread in
+      concludes_here r unread shelf shelf' sink sink' WriteFault (answer_on form r unread) refl
+      (inr (record {
+        status = refl;
+        front = subst (λ t. AppendsFront t sink sink') (sym grows.1) (front_of_more r.text grows.0 sink sink' front);
+        never_falls = never_falls;
+        rose = rose;
+      })) chosen
 
   -- an item was bad
   pub concludes_bad : (why : Reason) (number : ℕ) (hand unread : List ℕ) (shelf shelf' : Shown) (sink sink' : Taken) (result : Status)
@@ -266,14 +291,14 @@ module _ {S : Type 0} (form : FeedForm S) (number : ℕ) (line : List ℕ) (shor
       → (t : List ℕ) → read_more (in_lines s) number t (step_at form (in_lines s) line) ≡ record { at = is_bad why; number = number + 1; text = t ++ [] }
   step_bad s why other is t = ap (read_more (in_lines s) number t) (line_step-other s other ∙ ap by_line is)
 
-  end_more : (s : S) (may_end : Bool) (t : List ℕ) → read_more (in_lines s) number t (by_end s may_end) ≡ record { at = (by_end s may_end).at; number = number + 1; text = t ++ [] }
-  end_more s true t = refl
-  end_more s false t = refl
+  end_more : (s : S) (may_end : Bool) (given : S × List ℕ) (t : List ℕ) → read_more (in_lines s) number t (by_end may_end given) ≡ after_last may_end given (number + 1) t
+  end_more s true given t = refl
+  end_more s false given t = refl
 
   pub step_end : (s : S) → bytes_eq line (codes "end") ≡ true
-      → (t : List ℕ) → read_more (in_lines s) number t (step_at form (in_lines s) line) ≡ record { at = (by_end s (form.lines.may_end s)).at; number = number + 1; text = t ++ [] }
+      → (t : List ℕ) → read_more (in_lines s) number t (step_at form (in_lines s) line) ≡ after_last (form.lines.may_end s) (form.lines.ending s) (number + 1) t
   step_end s is t =
-      ap (read_more (in_lines s) number t) (line_step-short s ∙ cond-true (bytes_eq line (codes "end")) _ _ is) ∙ end_more s (form.lines.may_end s) t
+      ap (read_more (in_lines s) number t) (line_step-short s ∙ cond-true (bytes_eq line (codes "end")) _ _ is) ∙ end_more s (form.lines.may_end s) (form.lines.ending s) t
 
   header_step : step_at form start line ≡ by_header (form.header line)
   header_step = cond-false (nat_lt 4096 (length line)) _ _ (le-ltb 4096 (length line) short)
@@ -289,12 +314,25 @@ module _ {S : Type 0} (form : FeedForm S) (number : ℕ) (line : List ℕ) (shor
 -- The last line came, where it may or may not.
 module _ {S : Type 0} (form : FeedForm S) (s : S) (number : ℕ) (hand unread : List ℕ) (shelf shelf' : Shown) (sink sink' : Taken) (result : Status) where
   abbrev pub ConcludesEnd : Bool → Type 0
-  ConcludesEnd may_end = Concludes form (record { at = (by_end s may_end).at; number = number; text = hand }) unread shelf shelf' sink sink' result
+  ConcludesEnd may_end = Concludes form (after_last may_end (form.lines.ending s) number hand) unread shelf shelf' sink sink' result
 
   pub concludes_early : form.lines.may_end s ≡ false → IsGiven (FeedBad number reason.Count) (hand ++ bad_line number reason.Count) sink sink' result → shelf'.chosen ≡ shelf.chosen
       → ConcludesEnd (form.lines.may_end s)
-  concludes_early may_not given chosen = subst ConcludesEnd (sym may_not) (concludes_bad form reason.Count number hand unread shelf shelf' sink sink' result given chosen)
+  concludes_early may_not given chosen =
+      subst ConcludesEnd (sym may_not)
+      (subst (λ (t : List ℕ). Concludes form (record { at = is_bad reason.Count; number = number; text = t }) unread shelf shelf' sink sink' result) (sym (append-nil hand))
+      (concludes_bad form reason.Count number hand unread shelf shelf' sink sink' result given chosen))
 
-  pub concludes_end : form.lines.may_end s ≡ true → Concludes form (record { at = ended s; number = number; text = hand }) unread shelf shelf' sink sink' result
+  pub concludes_end : form.lines.may_end s ≡ true → Concludes form (record { at = ended (form.lines.ending s).0; number = number; text = hand ++ (form.lines.ending s).1 }) unread shelf shelf' sink sink' result
       → ConcludesEnd (form.lines.may_end s)
   concludes_end may concludes = subst ConcludesEnd (sym may) concludes
+
+  -- the text that the last line settles was gathered
+  pub concludes_gathered : (hand' : List ℕ) (sink1 : Taken) → form.lines.may_end s ≡ true → Gathers (form.lines.ending s).1 hand sink hand' sink1 → sink1.faults ≡ sink.faults
+      → Concludes form (record { at = ended (form.lines.ending s).0; number = number; text = hand' }) unread shelf shelf' sink1 sink' result → ConcludesEnd (form.lines.may_end s)
+  concludes_gathered hand' sink1 may gathers same concludes =
+      let e = (form.lines.ending s).0 in
+      let settled = (form.lines.ending s).1 in
+      concludes_end may
+      (concludes_then form (record { at = ended e; number = number; text = hand ++ settled }) (ended e) number hand' unread unread sink sink1
+      (goes_on_gathered form (ended e) number settled hand hand' unread sink sink1 gathers) shelf shelf shelf' sink' result same refl concludes)

@@ -14,6 +14,8 @@ pub record LineForm (S : Type 0) : Type 0 where
   pub line : S → List ℕ → Result (S × List ℕ) Reason
   -- whether the last line may come
   pub may_end : S → Bool
+  -- the state after the last line and the text that it settles, where it may come
+  pub ending : S → S × List ℕ
   -- the text that is written once nothing follows the last line
   pub closing : S → List ℕ
 
@@ -70,13 +72,13 @@ by_line (Ok given) = record { at = in_lines given.0; settled = given.1 }
 by_line (Err reason) = bad reason
 
 -- the last line comes, where it may
-abbrev pub by_end : {S : Type 0} → S → Bool → Step S
-by_end s true = record { at = ended s; settled = [] }
-by_end s false = bad Count
+abbrev pub by_end : {S : Type 0} → Bool → S × List ℕ → Step S
+by_end true given = record { at = ended given.0; settled = given.1 }
+by_end false given = bad Count
 
 -- a line after the header
 abbrev pub line_step : {S : Type 0} → LineForm S → S → List ℕ → Step S
-line_step form s line = if bytes_eq line (codes "end") then by_end s (form.may_end s) else by_line (form.line s line)
+line_step form s line = if bytes_eq line (codes "end") then by_end (form.may_end s) (form.ending s) else by_line (form.line s line)
 
 -- what a line does: nothing may come after the last one, and none has too many octets
 abbrev pub step_at : {S : Type 0} → FeedForm S → At S → List ℕ → Step S

@@ -1,5 +1,5 @@
 -- What the calls that read a feed do to the text in hand, the sink and the shelf. This is the project's own.
-use Rattle.std.specs.Prelude.{◌≡◌, ◌≢◌, ◌⊎◌, ◌≤◌, ℕ, true, List, [], ◌++◌, length, Option, Some, None, Result, Ok, Err}
+use Rattle.std.specs.Prelude.{◌≡◌, ◌≢◌, ◌⊎◌, ◌+◌, ◌≤◌, ℕ, Bool, true, List, [], ◌++◌, length, Option, Some, None, Result, Ok, Err}
 use Rattle.link_base.specs.Shelf.{Shown}
 use Rattle.link_base.specs.Sink.{Taken, Appends}
 use Rattle.link_text.specs.Gathered.{Gathers, BreaksOff}
@@ -11,12 +11,16 @@ use Rattle.link_run_feed.specs.declared.status.Status.{Status}
 use Rattle.link_run_feed.specs.declared.status.Status.TheVariants.{Usage, ReadFault, NoMemory}
 use Rattle.link_run_feed.specs.Answer.{Answer}
 use Rattle.link_run_feed.specs.Given.{IsGiven}
-use Rattle.link_run_feed.specs.Feed.{At, LineForm, FeedForm, Read, read_items, step_at, read_on, answer_on, is_good}
+use Rattle.link_run_feed.specs.Feed.{At, LineForm, FeedForm, Read, by_end, read_items, step_at, read_on, answer_on, is_good}
 
--- A header gives a feed in its first state and the text that it settles, or the line is none.
-abbrev pub IsOpened : {F S : Type 0} → (F → S → Type 0) → Option (S × List ℕ) → Option F → List ℕ → Type 0
-IsOpened {F} {S} stands header (Some feed) text = (s : S) × (header ≡ Some (s, text)) × stands feed s
-IsOpened stands header None text = (header ≡ None) × (text ≡ [])
+-- A header gives a feed in its first state and with the text that it settles, or the line is none.
+abbrev pub IsOpened : {F S : Type 0} → (F → S → List ℕ → Type 0) → Option (S × List ℕ) → Option F → Type 0
+IsOpened {F} {S} opens header (Some feed) = (s : S) × (text : List ℕ) × (header ≡ Some (s, text)) × opens feed s text
+IsOpened opens header None = header ≡ None
+
+-- The last line came: the text that it settles was gathered, and what the feed keeps is that of the state after it.
+abbrev pub IsEnded : {S : Type 0} → LineForm S → S → (S → Type 0) → List ℕ → Taken → List ℕ → Taken → Type 0
+IsEnded form s ended hand sink hand' sink' = ended (form.ending s).0 × Gathers (form.ending s).1 hand sink hand' sink'
 
 -- A line was read as what it is, and the text that it settles was gathered. What the feed keeps stands for the state after it.
 abbrev pub IsReadAs : {S : Type 0} → Result (S × List ℕ) Reason → Reading → (S → Type 0) → List ℕ → Taken → List ℕ → Taken → Type 0
@@ -63,6 +67,10 @@ pub record WantsMemory (octets : List ℕ) (shelf shelf' : Shown) : Type 0 where
   pub all : octets ≡ taken ++ shelf'.left
   pub few : length taken ≤ 8192
   pub chosen : shelf'.chosen ≡ shelf.chosen
+
+-- how far a feed is read once the last line came, which may come or not, after this text
+abbrev pub after_last : {S : Type 0} → Bool → S × List ℕ → ℕ → List ℕ → Read S
+after_last may_end given number text = record { at = (by_end may_end given).at; number = number; text = text ++ (by_end may_end given).settled }
 
 -- a status with which the reading of lines ends
 abbrev pub EndsLines : Status → Type 0

@@ -1,5 +1,5 @@
 -- Feeds as lists of good lines. This is the project's own.
-use Rattle.std.specs.Prelude.{codes, length, ◌≡◌, ◌<◌, ◌⊎◌, true, ℕ, List, [], ◌∷◌, ◌++◌, Some, Ok, Err}
+use Rattle.std.specs.Prelude.{codes, bytes_eq, if◌then◌else◌, ◌&&◌, length, ◌≡◌, ◌<◌, ◌⊎◌, true, ℕ, List, [], ◌∷◌, ◌++◌, Some, Ok, Err}
 use Rattle.link_text.specs.Lines.{lines_of, rest_of}
 use Rattle.link_run_feed.specs.Feed.{LineForm, FeedForm}
 use Rattle.link_run_feed.specs.declared.reason.Reason.{Reason}
@@ -15,7 +15,13 @@ abbrev pub EndsGood : {S : Type 0} → LineForm S → S → List (List ℕ) → 
 EndsGood form s [] = Unit {0}
 EndsGood form s (line ∷ lines) = (4096 < length line) ⊎ (line ≡ codes "end") ⊎ ((why : Reason) × (form.line s line ≡ Err why))
 
--- The octets begin with a header and good lines, up to the first line that is not good, and this text is what these settle.
+-- what the last line settles, where it is the first of these lines and may come in this state
+abbrev pub ended_text : {S : Type 0} → LineForm S → S → List (List ℕ) → List ℕ
+ended_text form s [] = []
+ended_text form s (line ∷ lines) = if bytes_eq line (codes "end") && form.may_end s then (form.ending s).1 else []
+
+-- The octets begin with a header and good lines, up to the first line that is not good, and this text is what these settle, and
+-- the last line where it follows them.
 pub record IsLedBy {S : Type 0} (form : FeedForm S) (octets text : List ℕ) : Type 0 where
   pub header : List ℕ
   pub first : S
@@ -28,7 +34,7 @@ pub record IsLedBy {S : Type 0} (form : FeedForm S) (octets text : List ℕ) : T
   pub opens : form.header header ≡ Some (first, front)
   pub leads : LeadTo form.lines first good last settled
   pub ends : EndsGood form.lines last following
-  pub whole : text ≡ front ++ settled
+  pub whole : text ≡ (front ++ settled) ++ ended_text form.lines last following
 
 -- what is settled of a feed: nothing, or what a header and the good lines after it settle
 abbrev pub IsSettledBy : {S : Type 0} → FeedForm S → List ℕ → List ℕ → Type 0
@@ -47,4 +53,4 @@ pub record IsDone {S : Type 0} (form : FeedForm S) (octets text : List ℕ) : Ty
   pub opens : form.header header ≡ Some (first, front)
   pub leads : LeadTo form.lines first good last settled
   pub may_end : form.lines.may_end last ≡ true
-  pub whole : text ≡ (front ++ settled) ++ form.lines.closing last
+  pub whole : text ≡ ((front ++ settled) ++ (form.lines.ending last).1) ++ form.lines.closing (form.lines.ending last).0

@@ -1,9 +1,9 @@
 // A feed: a file that is read, and answered, line by line.
-ghost use Rattle.std.specs.Prelude.{◌≡◌, ◌+◌, ◌^◌, ◌<◌, ◌≤◌, ℕ, List, [], length, Option, IsTrue, IfOk, IfSome, OnOk, OnErr};
+ghost use Rattle.std.specs.Prelude.{◌≡◌, ◌+◌, ◌^◌, ◌<◌, ◌≤◌, ℕ, List, length, Option, IsTrue, IfOk, IfSome, OnOk, OnErr};
 ghost use Rattle.link_base.specs.Faults.{HasCause};
 ghost use Rattle.link_text.specs.Gathered.{Gathers, BreaksOff};
 ghost use Rattle.link_run_feed.specs.Feed.{LineForm};
-ghost use Rattle.link_run_feed.specs.FeedCalls.{IsOpened, IsReadAs, BreaksOffAt};
+ghost use Rattle.link_run_feed.specs.FeedCalls.{IsOpened, IsEnded, IsReadAs, BreaksOffAt};
 
 use crate::reason::Reason;
 use link_base::{Failed, NoMemory, Sink};
@@ -39,22 +39,35 @@ pub trait Feed: Drop {
     /// What the feed keeps is that of this state.
     ghost stands: { Self → State → Type 0 };
 
+    /// What the feed keeps is that of this state, and this text of the header is still to be put.
+    ghost opens: { Self → State → List ℕ → Type 0 };
+
+    /// What the feed keeps is that of this state, to which the last line led.
+    ghost ended: { Self → State → Type 0 };
+
     /// How many more lines may be good.
     ghost lines_left: { Self → ℕ };
 
-    /// Reads the header without its line feed, and puts the text that it settles into the empty buffer. It gives nothing, and
-    /// puts nothing, where the line is no header. All memory that the feed needs is taken here.
+    /// Reads the header without its line feed. It gives nothing where the line is no header. All memory that the feed needs is
+    /// taken here.
     fn open(
         given: &Self::Given,
         alloc: Global,
         line: &[u8],
-        text: &mut TextBuffer,
     ) -> Result<Option<Self>, NoMemory>
         requires can { can_open given.now }
         requires short { length line.now ≤ 4096 }
-        requires empty { text.old ≡ [] }
-        ensures opens { IfOk result (λ opened. IsOpened stands (header given.now line.now) opened text.new) }
+        ensures opens { IfOk result (IsOpened opens (header given.now line.now)) }
         ensures few { IfOk result (λ opened. IfSome opened (λ feed. lines_left feed ≤ 2 ^ 40)) };
+
+    /// Appends the text that the header settles, once, before the first line.
+    fn begin<K: Sink>(&mut self, text: &mut TextBuffer, out: &mut K) -> Result<(), Failed>
+        ensures cause { HasCause (K.taken out.old).faults (K.taken out.new).faults result }
+        ensures begins { OnOk result ((s : State) (settled : List ℕ) → opens self.old s settled
+            → stands self.new s × Gathers settled text.old (K.taken out.old) text.new (K.taken out.new)) }
+        ensures few { OnOk result (lines_left self.new ≤ lines_left self.old) }
+        ensures fails { OnErr result ((s : State) (settled : List ℕ) → opens self.old s settled
+            → BreaksOff settled text.old (K.taken out.old) (K.taken out.new)) };
 
     /// Whether the last line, `end`, may come.
     fn may_end(&self) -> bool
@@ -76,11 +89,19 @@ pub trait Feed: Drop {
         ensures fails { OnErr result ((s : State) → stands self.old s
             → BreaksOffAt (lines.line s line.now) text.old (K.taken out.old) (K.taken out.new)) };
 
-    /// Appends what is written once nothing follows the last line, which may have come.
+    /// Appends what the last line settles, which may come.
+    fn end<K: Sink>(&mut self, text: &mut TextBuffer, out: &mut K) -> Result<(), Failed>
+        ensures cause { HasCause (K.taken out.old).faults (K.taken out.new).faults result }
+        ensures ends { OnOk result ((s : State) → stands self.old s → IsTrue (lines.may_end s)
+            → IsEnded lines s (ended self.new) text.old (K.taken out.old) text.new (K.taken out.new)) }
+        ensures fails { OnErr result ((s : State) → stands self.old s → IsTrue (lines.may_end s)
+            → BreaksOff (lines.ending s).1 text.old (K.taken out.old) (K.taken out.new)) };
+
+    /// Appends what is written once nothing follows the last line.
     fn close<K: Sink>(&mut self, text: &mut TextBuffer, out: &mut K) -> Result<(), Failed>
         ensures cause { HasCause (K.taken out.old).faults (K.taken out.new).faults result }
-        ensures closes { OnOk result ((s : State) → stands self.old s → IsTrue (lines.may_end s)
+        ensures closes { OnOk result ((s : State) → ended self.old s
             → Gathers (lines.closing s) text.old (K.taken out.old) text.new (K.taken out.new)) }
-        ensures fails { OnErr result ((s : State) → stands self.old s → IsTrue (lines.may_end s)
+        ensures fails { OnErr result ((s : State) → ended self.old s
             → BreaksOff (lines.closing s) text.old (K.taken out.old) (K.taken out.new)) };
 }

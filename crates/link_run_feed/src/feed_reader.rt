@@ -3,8 +3,8 @@ ghost use Rattle.std.specs.Prelude.{◌≡◌, ◌≢◌, ◌+◌, ◌^◌, ◌<
 ghost use Rattle.link_base.specs.Shelf.{SameFiles};
 ghost use Rattle.link_run_feed.specs.FaultCounts.{FaultCounts, CountsReads};
 ghost use Rattle.link_run_feed.specs.Course.{on_feed};
-ghost use Rattle.link_run_feed.specs.Feed.{in_lines, by_end, begun};
-ghost use Rattle.link_run_feed.specs.FeedCalls.{GoesOn, Concludes, WantsMemory, EndsLines, form_with};
+ghost use Rattle.link_run_feed.specs.Feed.{ended, in_lines, begun};
+ghost use Rattle.link_run_feed.specs.FeedCalls.{GoesOn, Concludes, WantsMemory, EndsLines, after_last, form_with};
 ghost use Rattle.link_run_feed.specs.Given.{IsGiven};
 ghost use Rattle.link_run_feed.specs.Promises.{Promises};
 
@@ -21,7 +21,7 @@ fn conclude<F: Feed, K: Sink>(feed: &mut F, text: &mut TextBuffer, out: &mut K) 
     ensures known { EndsLines result }
     ensures reads { result ≢ Status.ReadFault }
     ensures writes { FaultCounts (result ≡ Status.WriteFault) (K.taken out.old).faults (K.taken out.new).faults }
-    ensures given { (s : F.State) → F.stands feed.old s → IsTrue (F.lines.may_end s)
+    ensures given { (s : F.State) → F.ended feed.old s
         → IsGiven Status.Done (text.old ++ F.lines.closing s) (K.taken out.old) (K.taken out.new) result }
 {
     match feed.close(text, out) {
@@ -30,7 +30,33 @@ fn conclude<F: Feed, K: Sink>(feed: &mut F, text: &mut TextBuffer, out: &mut K) 
     }
 }
 
-// Reads on after the last line, which has this number: there may be nothing, where the line may have come.
+// Reads on after the last line, which has this number: there may be nothing.
+fn read_after_last<F: Feed, H: Shelf, K: Sink>(
+    feed: &mut F,
+    number: u64,
+    reader: &mut LineReader,
+    text: &mut TextBuffer,
+    shelf: &mut H,
+    out: &mut K,
+) -> Status
+    requires fresh { reader.old.ended ≡ None }
+    requires limit { number < 2 ^ 42 }
+    ensures files { SameFiles (H.shown shelf.old) (H.shown shelf.new) }
+    ensures known { EndsLines result }
+    ensures reads { CountsReads Bool.true result (H.shown shelf.old).faults (H.shown shelf.new).faults }
+    ensures writes { FaultCounts (result ≡ Status.WriteFault) (K.taken out.old).faults (K.taken out.new).faults }
+    ensures concludes { (header : List ℕ → Option (F.State × List ℕ)) (s : F.State) → F.ended feed.old s → IsTrue (H.shown shelf.old).tells
+        → Concludes (form_with header F.lines) (record { at = ended s; number = number; text = text.old })
+        (reader.old.rest ++ (H.shown shelf.old).left) (H.shown shelf.old) (H.shown shelf.new) (K.taken out.old) (K.taken out.new) result }
+{
+    match reader.next(shelf) {
+        Line::End => conclude(feed, text, out),
+        Line::Failed => give_text(Status::ReadFault, text, out),
+        _ => refuse(number + 1, Reason::After, text, out),
+    }
+}
+
+// Takes the last line, which has this number, where it may come, and reads on after it.
 fn finish<F: Feed, H: Shelf, K: Sink>(
     feed: &mut F,
     number: u64,
@@ -46,16 +72,15 @@ fn finish<F: Feed, H: Shelf, K: Sink>(
     ensures reads { CountsReads Bool.true result (H.shown shelf.old).faults (H.shown shelf.new).faults }
     ensures writes { FaultCounts (result ≡ Status.WriteFault) (K.taken out.old).faults (K.taken out.new).faults }
     ensures concludes { (header : List ℕ → Option (F.State × List ℕ)) (s : F.State) → F.stands feed.old s → IsTrue (H.shown shelf.old).tells
-        → Concludes (form_with header F.lines) (record { at = (by_end s (F.lines.may_end s)).at; number = number; text = text.old })
+        → Concludes (form_with header F.lines) (after_last (F.lines.may_end s) (F.lines.ending s) number text.old)
         (reader.old.rest ++ (H.shown shelf.old).left) (H.shown shelf.old) (H.shown shelf.new) (K.taken out.old) (K.taken out.new) result }
 {
     if !feed.may_end() {
         return refuse(number, Reason::Count, text, out);
     }
-    match reader.next(shelf) {
-        Line::End => conclude(feed, text, out),
-        Line::Failed => give_text(Status::ReadFault, text, out),
-        _ => refuse(number + 1, Reason::After, text, out),
+    match feed.end(text, out) {
+        Ok(()) => read_after_last(feed, number, reader, text, shelf, out),
+        Err(Failed) => Status::WriteFault,
     }
 }
 
@@ -131,6 +156,30 @@ fn read_lines<F: Feed, H: Shelf, K: Sink>(
     }
 }
 
+// Puts the text of the header, which was line 1, and reads the lines after it.
+fn read_opened<F: Feed, H: Shelf, K: Sink>(
+    feed: &mut F,
+    reader: &mut LineReader,
+    text: &mut TextBuffer,
+    shelf: &mut H,
+    out: &mut K,
+) -> Status
+    requires fresh { reader.old.ended ≡ None }
+    requires limit { F.lines_left feed.old ≤ 2 ^ 40 }
+    ensures files { SameFiles (H.shown shelf.old) (H.shown shelf.new) }
+    ensures known { EndsLines result }
+    ensures reads { CountsReads Bool.true result (H.shown shelf.old).faults (H.shown shelf.new).faults }
+    ensures writes { FaultCounts (result ≡ Status.WriteFault) (K.taken out.old).faults (K.taken out.new).faults }
+    ensures concludes { (header : List ℕ → Option (F.State × List ℕ)) (s : F.State) (settled : List ℕ) → F.opens feed.old s settled → IsTrue (H.shown shelf.old).tells
+        → Concludes (form_with header F.lines) (record { at = in_lines s; number = 1; text = text.old ++ settled })
+        (reader.old.rest ++ (H.shown shelf.old).left) (H.shown shelf.old) (H.shown shelf.new) (K.taken out.old) (K.taken out.new) result }
+{
+    match feed.begin(text, out) {
+        Ok(()) => read_lines(feed, reader, text, shelf, out),
+        Err(Failed) => Status::WriteFault,
+    }
+}
+
 // Reads and answers the selected file from its beginning.
 fn read_selected<F: Feed, H: Shelf, K: Sink>(
     given: &F::Given,
@@ -159,8 +208,8 @@ fn read_selected<F: Feed, H: Shelf, K: Sink>(
         Line::End | Line::Unended => return refuse(1, Reason::Unended, &mut text, out),
         Line::Failed => return Status::ReadFault,
     };
-    match F::open(given, alloc, line, &mut text) {
-        Ok(Some(mut feed)) => read_lines(&mut feed, &mut reader, &mut text, shelf, out),
+    match F::open(given, alloc, line) {
+        Ok(Some(mut feed)) => read_opened(&mut feed, &mut reader, &mut text, shelf, out),
         Ok(None) => refuse(1, Reason::Header, &mut text, out),
         Err(NoMemory) => Status::NoMemory,
     }

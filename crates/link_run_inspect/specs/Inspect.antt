@@ -72,7 +72,7 @@ abbrev pub totals : Inspected → List ℕ
 totals s = ended (codes "end " ++ decimal (length s.frames) ++ codes " " ++ decimal (violations_of (counted s.frames)))
 
 abbrev pub frame_lines : LineForm Inspected
-frame_lines = record { line = frame_line; may_end = λ s. length s.frames == s.due; closing = totals }
+frame_lines = record { line = frame_line; may_end = λ s. length s.frames == s.due; ending = λ s. (s, []); closing = totals }
 
 abbrev pub inspect_form : FeedForm Inspected
 inspect_form = record { header = opened_by; lines = frame_lines }

@@ -229,18 +229,25 @@ impl Feed for Inspector {
 
     ghost stands = { Inspects };
 
+    ghost opens = { λ w s text. Inspects w s × (text ≡ []) };
+
+    ghost ended = { Inspects };
+
     ghost lines_left = { λ i. i.due - i.reception.number };
 
     fn open(
         _: &(),
         alloc: Global,
         line: &[u8],
-        _: &mut TextBuffer,
     ) -> Result<Option<Inspector>, NoMemory> {
         match header(line) {
             Some((width, due)) => Ok(Some(Inspector::begin(alloc, width, due)?)),
             None => Ok(None),
         }
+    }
+
+    fn begin<K: Sink>(&mut self, _text: &mut TextBuffer, _out: &mut K) -> Result<(), Failed> {
+        Ok(())
     }
 
     fn may_end(&self) -> bool {
@@ -264,6 +271,10 @@ impl Feed for Inspector {
             Ok(()) => Ok(Reading::Good),
             Err(failed) => Err(failed),
         }
+    }
+
+    fn end<K: Sink>(&mut self, _text: &mut TextBuffer, _out: &mut K) -> Result<(), Failed> {
+        Ok(())
     }
 
     fn close<K: Sink>(&mut self, text: &mut TextBuffer, out: &mut K) -> Result<(), Failed> {

@@ -1,6 +1,6 @@
 -- What is printed as the lines of a capture come is what all its records together give.
 use Rattle.std.proofs.Common.{◌≡◌, ◌⊎◌, inl, inr, ◌∙◌, ◌+◌, ◌-◌, ◌≤◌, ◌<◌, ◌++◌, ◌∷◌, [], ℕ, zero, suc, List, All, length, map, Bool, true, false, Option, Some, None, Result, Ok, Err, sym, ap, subst, refl, arith, append_assoc, append-nil}
-use Rattle.std.specs.Prelude.{codes, min, nat_le, nat_lt, if◌then◌else◌}
+use Rattle.std.specs.Prelude.{codes, bytes_eq, ◌&&◌, min, nat_le, nat_lt, if◌then◌else◌}
 use Rattle.std.specs.List.{flat_map, range_with_len}
 use Rattle.std.proofs.lemmas.Bool.{ltb-false}
 use Rattle.std.proofs.lemmas.List.Elements.{All-cons}
@@ -14,7 +14,7 @@ use Rattle.link_run_feed.specs.declared.reason.Reason.{Reason}
 use Rattle.link_run_feed.specs.declared.reason.Reason.TheVariants.{Order, Many}
 use Rattle.link_run_feed.specs.declared.status.Status.TheVariants.{Done}
 use Rattle.link_run_feed.specs.Feed.{feed_answer, settled}
-use Rattle.link_run_feed.specs.Leads.{LeadTo, IsLedBy}
+use Rattle.link_run_feed.specs.Leads.{LeadTo, IsLedBy, ended_text}
 use Rattle.link_run_feed.proofs.Leading.{settled_leads, done_leads}
 use Rattle.link_run_capture.specs.Capture.{most_records, header_of, record_of}
 use Rattle.link_run_capture.specs.declared.header.Header.{Header}
@@ -188,6 +188,18 @@ opened p (Some header) first front is =
     let same : (begun p header, []) ≡ (first, front) = cc in
     (header, refl, sym (ap (λ (q : Replayed × List ℕ). q.0) same), sym (ap (λ (q : Replayed × List ℕ). q.1) same))
 
+-- the last line settles nothing
+abbrev nothing_by : Bool → List ℕ
+nothing_by last = if last then [] else []
+
+ended_by : (last : Bool) → nothing_by last ≡ []
+ended_by true = refl
+ended_by false = refl
+
+no_ended : (p : Plan) (last : Replayed) (following : List (List ℕ)) (text : List ℕ) → text ++ ended_text replay_lines last following ≡ text
+no_ended p last [] text = append-nil text
+no_ended p last (line ∷ lines) text = ap (λ more. text ++ more) (ended_by (bytes_eq line (codes "end") && true)) ∙ append-nil text
+
 module _ (p : Plan) (octets : List ℕ) (good : IsGood p) where
   by_led : (text : List ℕ) → IsLedBy (replay_form p) octets text → IsSettledText p octets text
   by_led text led =
@@ -196,7 +208,7 @@ module _ (p : Plan) (octets : List ℕ) (good : IsGood p) where
         header = opens.0;
         records = went.later;
         begins = record { first = led.header; lines = led.good; following = led.following; whole = led.lines; says = opens.1; reads = went.reads };
-        printed = led.whole ∙ ap (λ front. front ++ led.settled) opens.3 ∙ settles_all p opens.0 good led.last led.good led.settled went;
+        printed = led.whole ∙ no_ended p led.last led.following (led.front ++ led.settled) ∙ ap (λ front. front ++ led.settled) opens.3 ∙ settles_all p opens.0 good led.last led.good led.settled went;
       }
 
   settles : (settled (replay_form p) octets ≡ []) ⊎ IsSettledText p octets (settled (replay_form p) octets)
@@ -214,7 +226,8 @@ module _ (p : Plan) (octets : List ℕ) (good : IsGood p) where
         records = went.later;
         capture = record { first = read.header; lines = read.good; whole = read.lines; after = read.nothing_after; says = opens.1; reads = went.reads };
         printed =
-            read.whole ∙ ap (λ front. (front ++ read.settled) ++ replay_closing read.last) opens.3
+            read.whole ∙ ap (λ text. text ++ replay_closing read.last) (append-nil (read.front ++ read.settled))
+            ∙ ap (λ front. (front ++ read.settled) ++ replay_closing read.last) opens.3
             ∙ prints_all p opens.0 good read.last read.good read.settled went;
       }
 

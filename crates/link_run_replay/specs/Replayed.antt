@@ -45,7 +45,7 @@ abbrev pub replay_closing : Replayed → List ℕ
 replay_closing s = (text_below s (last_tick s) ++ flow_lines s.plan s.header.run_ticks s.records) ++ ended (codes "end")
 
 abbrev pub replay_lines : LineForm Replayed
-replay_lines = record { line = λ s line. replay_by s (record_of line); may_end = λ s. true; closing = replay_closing }
+replay_lines = record { line = λ s line. replay_by s (record_of line); may_end = λ s. true; ending = λ s. (s, []); closing = replay_closing }
 
 -- a run in which nothing arrived yet
 abbrev pub begun : Plan → Header → Replayed

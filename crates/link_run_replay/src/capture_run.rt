@@ -100,13 +100,16 @@ impl Feed for CaptureRun {
 
     ghost stands = { λ w s. KeepsRun w.player.session w.player.management w.tick w.lines_left s };
 
+    ghost opens = { λ w s text. KeepsRun w.player.session w.player.management w.tick w.lines_left s × (text ≡ []) };
+
+    ghost ended = { λ w s. KeepsRun w.player.session w.player.management w.tick w.lines_left s };
+
     ghost lines_left = { λ w. w.lines_left };
 
     fn open(
         given: &Checked,
         alloc: Global,
         line: &[u8],
-        _text: &mut TextBuffer,
     ) -> Result<Option<Self>, NoMemory> {
         let width = octets_of_word(given.plan().option);
         match read_header(width, line) {
@@ -116,6 +119,10 @@ impl Feed for CaptureRun {
             },
             None => Ok(None),
         }
+    }
+
+    fn begin<K: Sink>(&mut self, _text: &mut TextBuffer, _out: &mut K) -> Result<(), Failed> {
+        Ok(())
     }
 
     fn may_end(&self) -> bool {
@@ -140,6 +147,10 @@ impl Feed for CaptureRun {
             }
             Err(failed) => Err(failed),
         }
+    }
+
+    fn end<K: Sink>(&mut self, _text: &mut TextBuffer, _out: &mut K) -> Result<(), Failed> {
+        Ok(())
     }
 
     fn close<K: Sink>(&mut self, text: &mut TextBuffer, out: &mut K) -> Result<(), Failed> {

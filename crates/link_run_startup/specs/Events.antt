@@ -103,7 +103,7 @@ step_by s (Ok e) =
 
 -- each line is an event, and the last line may come at any time
 abbrev pub event_lines : LineForm Events
-event_lines = record { line = λ s line. step_by s (event_of line); may_end = λ s. true; closing = λ s. codes "end" ++ 10 ∷ [] }
+event_lines = record { line = λ s line. step_by s (event_of line); may_end = λ s. true; ending = λ s. (s, []); closing = λ s. codes "end" ++ 10 ∷ [] }
 
 abbrev pub events_form : FeedForm Events
 events_form = record { header = λ line. begun_with (header_caps (fields_of line)); lines = event_lines }

@@ -179,13 +179,16 @@ impl Feed for Events {
 
     ghost stands = { λ w s. w ≡ s };
 
+    ghost opens = { λ w s text. (w ≡ s) × (text ≡ []) };
+
+    ghost ended = { λ w s. w ≡ s };
+
     ghost lines_left = { λ s. 65536 - s.count };
 
     fn open(
         _: &(),
         alloc: Global,
         line: &[u8],
-        _: &mut TextBuffer,
     ) -> Result<Option<Events>, NoMemory> {
         match header_caps(line) {
             Some(caps) => Ok(Some(Events {
@@ -194,6 +197,10 @@ impl Feed for Events {
             })),
             None => Ok(None),
         }
+    }
+
+    fn begin<K: Sink>(&mut self, _text: &mut TextBuffer, _out: &mut K) -> Result<(), Failed> {
+        Ok(())
     }
 
     fn may_end(&self) -> bool {
@@ -217,6 +224,10 @@ impl Feed for Events {
             }
             Err(failed) => Err(failed),
         }
+    }
+
+    fn end<K: Sink>(&mut self, _text: &mut TextBuffer, _out: &mut K) -> Result<(), Failed> {
+        Ok(())
     }
 
     fn close<K: Sink>(&mut self, text: &mut TextBuffer, out: &mut K) -> Result<(), Failed> {

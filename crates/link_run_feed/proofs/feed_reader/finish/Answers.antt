@@ -1,10 +1,7 @@
-use Rattle.std.proofs.Common.{◌∙◌, refl, sym, ap}
-use Rattle.link_text.specs.declared.lines.Ending.TheVariants as stopped
-use Rattle.link_text.specs.Lines.{ending_of}
-use Rattle.link_text.proofs.Next.{gives_none}
+use Rattle.std.proofs.Common.{◌++◌, ◌∙◌, refl, sym}
 use Rattle.link_run_feed.specs.Feed.{ended}
 use Rattle.link_run_feed.specs.FeedCalls.{form_with}
-use Rattle.link_run_feed.proofs.FeedLines.{concludes_early, concludes_end, concludes_done, concludes_after, concludes_stopped}
+use Rattle.link_run_feed.proofs.FeedLines.{concludes_early, concludes_end, concludes_gathered, concludes_cut}
 use Rattle.link_run_feed.proofs.feed_reader.finish.Goals as goal
 
 pub returns-then-not-may_end-clause-concludes : goal.returns-then-not-may_end-clause-concludes
@@ -13,29 +10,18 @@ returns-then-not-may_end-clause-concludes g c = λ header s stands told.
     (sym (c.may_end.ensures s stands) ∙ c.if-not-may_end.true)
     c.refuse.ensures refl
 
-pub returns-in-End-clause-concludes : goal.returns-in-End-clause-concludes
-returns-in-End-clause-concludes g c = λ header s stands told.
-    let before = g.H.Shelf.shown c.args.shelf.now in
-    let after = g.H.Shelf.shown c.next.new.shelf in
+pub returns-in-Ok-clause-concludes : goal.returns-in-Ok-clause-concludes
+returns-in-Ok-clause-concludes g c = λ header s stands told.
     let may = sym (c.may_end.ensures s stands) ∙ c.if-not-may_end.false in
-    concludes_end (form_with header g.F.Feed.lines) s c.args.number c.args.text.now _ _ _ _ _ c.conclude.result may
-    (concludes_done (form_with header g.F.Feed.lines) s c.args.number c.args.text.now c.args.reader.now c.next.follows.lender-at-none before after c.next.result _ _ c.conclude.result
-    c.requires.fresh c.next.follows.holds-at-none (rw c.requires.fresh at c.next.ensures.shows) told (c.next.ensures.chosen told) c.in-End.is (c.conclude.ensures.given s stands may))
+    let over = c.in-Ok.ensures.ends s stands may in
+    concludes_gathered (form_with header g.F.Feed.lines) s c.args.number c.args.text.now _ _ _ (g.K.Sink.taken c.args.out.now) _ c.read_after_last.result c.end.new.text (g.K.Sink.taken c.end.new.out) may
+    over.1 c.in-Ok.ensures.cause.by_result (c.read_after_last.ensures.concludes header (g.F.Feed.lines.ending s).0 over.0 told)
 
-pub returns-in-Failed-clause-concludes : goal.returns-in-Failed-clause-concludes
-returns-in-Failed-clause-concludes g c = λ header s stands told.
-    let before = g.H.Shelf.shown c.args.shelf.now in
-    let after = g.H.Shelf.shown c.next.new.shelf in
-    let none = gives_none c.args.reader.now c.next.follows.lender-at-none before after c.next.result stopped.Failed c.requires.fresh c.next.follows.holds-at-none (ap ending_of c.in-Failed.is) in
-    let shows = rw c.requires.fresh at c.in-Failed.ensures.shows in
-    concludes_end (form_with header g.F.Feed.lines) s c.args.number c.args.text.now _ _ _ _ _ c.give_text.result (sym (c.may_end.ensures s stands) ∙ c.if-not-may_end.false)
-    (concludes_stopped (form_with header g.F.Feed.lines) (record { at = ended s; number = c.args.number; text = c.args.text.now }) c.args.reader.now c.next.follows.lender-at-none before after _ _ c.give_text.result
-    none refl told (c.in-Failed.ensures.chosen told) (shows.failed told) c.give_text.ensures)
-
-pub returns-in_default-clause-concludes : goal.returns-in_default-clause-concludes
-returns-in_default-clause-concludes g c = λ header s stands told.
-    let before = g.H.Shelf.shown c.args.shelf.now in
-    let after = g.H.Shelf.shown c.next.new.shelf in
-    concludes_end (form_with header g.F.Feed.lines) s c.args.number c.args.text.now _ _ _ _ _ c.refuse-in_default.result (sym (c.may_end.ensures s stands) ∙ c.if-not-may_end.false)
-    (concludes_after (form_with header g.F.Feed.lines) s c.args.number c.args.text.now c.args.reader.now c.next.follows.lender-at-none before after c.next.result _ _ c.refuse-in_default.result
-    c.requires.fresh c.next.follows.holds-at-none (rw c.requires.fresh at c.next.ensures.shows) told (c.next.ensures.chosen told) c.in_default.not-End c.in_default.not-Failed c.refuse-in_default.ensures)
+pub returns-in-Err-clause-concludes : goal.returns-in-Err-clause-concludes
+returns-in-Err-clause-concludes g c = λ header s stands told.
+    let form = form_with header g.F.Feed.lines in
+    let given = g.F.Feed.lines.ending s in
+    let may = sym (c.may_end.ensures s stands) ∙ c.if-not-may_end.false in
+    concludes_end form s c.args.number c.args.text.now _ _ _ _ _ _ may
+    (concludes_cut form (record { at = ended given.0; number = c.args.number; text = c.args.text.now ++ given.1 }) _ (g.H.Shelf.shown c.args.shelf.now) (g.H.Shelf.shown c.args.shelf.now)
+    (g.K.Sink.taken c.args.out.now) (g.K.Sink.taken c.end.new.out) (c.in-Err.ensures.fails s stands may) refl c.in-Err.ensures.cause.never_falls c.in-Err.ensures.cause.by_result)

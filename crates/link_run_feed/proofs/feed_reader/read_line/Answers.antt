@@ -1,8 +1,8 @@
-use Rattle.std.proofs.Common.{◌+◌, refl, sym, ap, subst, IsTrue, []}
+use Rattle.std.proofs.Common.{◌+◌, ◌++◌, refl, sym, ap, subst, IsTrue, []}
 use Rattle.link_text.specs.declared.lines.Ending.TheVariants as stopped
 use Rattle.link_text.specs.Lines.{ending_of}
 use Rattle.link_text.proofs.Next.{gives_none, gives_line}
-use Rattle.link_text.proofs.Gathering.{gathers_none}
+use Rattle.link_text.proofs.Gathering.{gathers_none, gathers_put}
 use Rattle.link_run_feed.specs.Feed.{in_lines, is_bad, by_end}
 use Rattle.link_run_feed.specs.FeedCalls.{form_with}
 use Rattle.link_run_feed.proofs.FeedLines.{goes_on_line, concludes_then, concludes_long, concludes_unended, concludes_stopped, concludes_bad, concludes_broken, step_good, step_bad, step_end}
@@ -39,10 +39,10 @@ returns-then-eq-clause-concludes g c = λ header s stands told.
     let line = gives_line c.args.reader.now c.next.follows.lender-at-none before mid c.next.result c.in-Text.line c.requires.fresh c.next.follows.holds-at-none c.in-Text.is in
     let is = sym (rw c.as_slice.ensures at c.if-eq.ensures) in
     let later = subst IsTrue (sym c.in-Text.ensures.files.tells) told in
-    let at = (by_end s (g.F.Feed.lines.may_end s)).at in
-    concludes_then form (record { at = in_lines s; number = c.args.number; text = hand }) at (c.args.number + 1) hand _ _ sink sink
-    (goes_on_line form (in_lines s) at c.args.number [] hand hand c.in-Text.line.now c.args.reader.now c.next.follows.lender-at-none before mid sink sink
-    (step_end form c.args.number c.in-Text.line.now line.is_line.0 s is) line told (gathers_none hand sink))
+    let step = by_end (g.F.Feed.lines.may_end s) (g.F.Feed.lines.ending s) in
+    concludes_then form (record { at = in_lines s; number = c.args.number; text = hand }) step.at (c.args.number + 1) (hand ++ step.settled) _ _ sink sink
+    (goes_on_line form (in_lines s) step.at c.args.number step.settled hand (hand ++ step.settled) c.in-Text.line.now c.args.reader.now c.next.follows.lender-at-none before mid sink sink
+    (step_end form c.args.number c.in-Text.line.now line.is_line.0 s is) line told (gathers_put step.settled hand (hand ++ step.settled) sink refl))
     before mid (g.H.Shelf.shown c.finish.new.shelf) (g.K.Sink.taken c.finish.new.out) c.finish.result refl (c.in-Text.ensures.chosen told)
     (c.finish.ensures.concludes header s stands later)
 

@@ -51,20 +51,19 @@ returns-in-Ok-Some-clause-concludes g c = λ told other.
     let form = form_with (g.F.Feed.header c.args.given.now) g.F.Feed.lines in
     let before = g.H.Shelf.shown c.args.shelf.now in
     let mid = g.H.Shelf.shown c.next.new.shelf in
-    let after = g.H.Shelf.shown c.read_lines.new.shelf in
+    let after = g.H.Shelf.shown c.read_opened.new.shelf in
     let sink = g.K.Sink.taken c.args.out.now in
-    let text = c.open.new.text in
     let fresh = ap (λ (r : Reading). r.ended) c.in-Ok.ensures in
     let none = ap (λ (r : Reading). r.rest ++ before.left) c.in-Ok.ensures in
     let line = gives_line c.in-Ok.reader c.next.follows.lender-at-none before mid c.next.result c.in-Text.line fresh c.next.follows.holds-at-none c.in-Text.is in
     let opened = (rw c.in-Ok-Some.field-0-is at c.in-Ok-Some.ensures).opens in
     let later = subst IsTrue (sym c.in-Text.ensures.files.tells) told in
-    subst (λ unread. Concludes form begun unread before after sink (g.K.Sink.taken c.read_lines.new.out) c.read_lines.result) none
-    (concludes_then form begun (in_lines opened.0) 1 text _ _ sink sink
-    (goes_on_line form start (in_lines opened.0) 0 text [] text c.in-Text.line.now c.in-Ok.reader c.next.follows.lender-at-none before mid sink sink
-    (step_header form 0 c.in-Text.line.now line.is_line.0 opened.0 text opened.1) line told (gathers_put text [] text sink refl))
-    before mid after (g.K.Sink.taken c.read_lines.new.out) c.read_lines.result refl (c.in-Text.ensures.chosen told)
-    (c.read_lines.ensures.concludes (g.F.Feed.header c.args.given.now) opened.0 opened.2 later))
+    let concludes = rw c.new-text.ensures at c.read_opened.ensures.concludes (g.F.Feed.header c.args.given.now) opened.0 opened.1 opened.3 later in
+    subst (λ unread. Concludes form begun unread before after sink (g.K.Sink.taken c.read_opened.new.out) c.read_opened.result) none
+    (concludes_then form begun (in_lines opened.0) 1 opened.1 _ _ sink sink
+    (goes_on_line form start (in_lines opened.0) 0 opened.1 [] opened.1 c.in-Text.line.now c.in-Ok.reader c.next.follows.lender-at-none before mid sink sink
+    (step_header form 0 c.in-Text.line.now line.is_line.0 opened.0 opened.1 opened.2) line told (gathers_put opened.1 [] opened.1 sink refl))
+    before mid after (g.K.Sink.taken c.read_opened.new.out) c.read_opened.result refl (c.in-Text.ensures.chosen told) concludes)
 
 pub returns-in-Ok-None-clause-concludes : goal.returns-in-Ok-None-clause-concludes
 returns-in-Ok-None-clause-concludes g c = λ told other.
@@ -76,10 +75,10 @@ returns-in-Ok-None-clause-concludes g c = λ told other.
     let none = ap (λ (r : Reading). r.rest ++ before.left) c.in-Ok.ensures in
     let line = gives_line c.in-Ok.reader c.next.follows.lender-at-none before after c.next.result c.in-Text.line fresh c.next.follows.holds-at-none c.in-Text.is in
     let opened = (rw c.in-Ok-None.field-0-is at c.in-Ok-None.ensures).opens in
-    let given = rw opened.1 at c.refuse-in-Ok-None.ensures in
+    let given = rw c.new-text.ensures at c.refuse-in-Ok-None.ensures in
     subst (λ unread. Concludes form begun unread before after sink (g.K.Sink.taken c.refuse-in-Ok-None.new.out) c.refuse-in-Ok-None.result) none
     (concludes_then form begun (is_bad reason.Header) 1 [] _ _ sink sink
     (goes_on_line form start (is_bad reason.Header) 0 [] [] [] c.in-Text.line.now c.in-Ok.reader c.next.follows.lender-at-none before after sink sink
-    (step_no_header form 0 c.in-Text.line.now line.is_line.0 opened.0) line told (gathers_none [] sink))
+    (step_no_header form 0 c.in-Text.line.now line.is_line.0 opened) line told (gathers_none [] sink))
     before after after (g.K.Sink.taken c.refuse-in-Ok-None.new.out) c.refuse-in-Ok-None.result refl (c.in-Text.ensures.chosen told)
     (concludes_bad form reason.Header 1 [] _ after after sink _ c.refuse-in-Ok-None.result given refl))

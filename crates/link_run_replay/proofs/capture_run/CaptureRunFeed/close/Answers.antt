@@ -12,7 +12,7 @@ use Rattle.link_run_replay.proofs.capture_run.CaptureRunFeed.close.Goals as goal
 
 pub returns-in_err-play_to-clause-fails : goal.returns-in_err-play_to-clause-fails
 returns-in_err-play_to-clause-fails g c =
-    on_err c.from_residual.result (λ s replay may.
+    on_err c.from_residual.result (λ s replay.
     let taken = g.K.Sink.taken in
     let now = c.args.self.now in
     let session = now.player.session in
@@ -24,7 +24,7 @@ returns-in_err-play_to-clause-fails g c =
 
 pub returns-in_err-put_flows-clause-fails : goal.returns-in_err-put_flows-clause-fails
 returns-in_err-put_flows-clause-fails g c =
-    on_err c.from_residual-in_err-put_flows.result (λ s replay may.
+    on_err c.from_residual-in_err-put_flows.result (λ s replay.
     let taken = g.K.Sink.taken in
     let now = c.args.self.now in
     let session = now.player.session in
@@ -44,7 +44,7 @@ returns-in_err-put_flows-clause-fails g c =
 
 pub returns-in_err-make_room-clause-fails : goal.returns-in_err-make_room-clause-fails
 returns-in_err-make_room-clause-fails g c =
-    on_err c.from_residual-in_err-make_room.result (λ s replay may.
+    on_err c.from_residual-in_err-make_room.result (λ s replay.
     let taken = g.K.Sink.taken in
     let now = c.args.self.now in
     let session = now.player.session in
@@ -64,7 +64,7 @@ returns-in_err-make_room-clause-fails g c =
     c.in_err-make_room.ensures.front)
 
 pub returns-clause-closes : goal.returns-clause-closes
-returns-clause-closes g c = λ s replay may.
+returns-clause-closes g c = λ s replay.
     let taken = g.K.Sink.taken in
     let now = c.args.self.now in
     let session = now.player.session in
