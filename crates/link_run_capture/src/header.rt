@@ -3,43 +3,71 @@ ghost use Rattle.std.specs.Prelude.{ℕ, ◌≡◌, ◌≤◌, ◌^◌, IfSome};
 ghost use Rattle.link_text.specs.Fields.{at_first_space};
 ghost use Rattle.control_words.specs.Announcement.{IsWithinTable};
 ghost use Rattle.link_text.specs.Decimals.{decimal_value};
-ghost use Rattle.link_run_capture.specs.Capture.{at_most, longest_run, first_version, with_channels, with_run, header_of};
+ghost use Rattle.link_run_capture.specs.Capture.{at_most, longest_run, first_version, with_channels, with_run, header_of, run_header};
 
 use control_words::Announce;
 use link_text::{at_first_space, decimal};
 
-/// The two versions of captures.
+/// The files that begin by saying what a run is.
+#[derive(Clone, Copy, Debug, PartialEq, Eq)]
+pub enum RunFile {
+    /// The packets that arrive.
+    Capture,
+    /// The samples that are sent.
+    Samples,
+}
+
+/// The two versions of these files.
 #[derive(Clone, Copy, Debug, PartialEq, Eq)]
 pub enum Version {
     One,
     Two,
 }
 
-/// What the first line of a capture says.
+/// What the first line of such a file says.
 #[derive(Clone, Copy, Debug, PartialEq, Eq)]
 pub struct Header {
     pub version: Version,
     /// The length of the run, in ticks.
     pub run_ticks: u64,
-    /// What the control words of the run announce. A capture of version 1 says nothing of it, and has no management channel.
+    /// What the control words of the run announce. A file of version 1 says nothing of it, and has no management channel.
     pub announce: Announce,
+}
+
+impl RunFile {
+    ghost use Rattle.std.specs.Prelude.{◌≡◌};
+    ghost use Rattle.link_run_capture.specs.Capture.{header_word, longest_run};
+
+    /// The first word of a header.
+    pub fn word(self, version: Version) -> &'static str
+        ensures { result.now ≡ header_word self version }
+    {
+        match (self, version) {
+            (RunFile::Capture, Version::One) => "capture",
+            (RunFile::Capture, Version::Two) => "capture2",
+            (RunFile::Samples, Version::One) => "samples",
+            (RunFile::Samples, Version::Two) => "samples2",
+        }
+    }
+
+    /// The greatest length of a run, in ticks.
+    pub fn longest_run(self, version: Version) -> u64
+        ensures { result ≡ longest_run self version }
+    {
+        match (self, version) {
+            (RunFile::Capture, Version::One) => 4096,
+            (RunFile::Capture, Version::Two) => 1 << 40,
+            (RunFile::Samples, Version::One) => 4096,
+            (RunFile::Samples, Version::Two) => 1_048_576,
+        }
+    }
 }
 
 impl Version {
     ghost use Rattle.std.specs.Prelude.{◌≡◌};
-    ghost use Rattle.link_run_capture.specs.Capture.{longest_run, most_records};
+    ghost use Rattle.link_run_capture.specs.Capture.{most_records};
 
-    /// The greatest length of a run, in ticks.
-    pub fn longest_run(self) -> u64
-        ensures { result ≡ longest_run self }
-    {
-        match self {
-            Version::One => 4096,
-            Version::Two => 1 << 40,
-        }
-    }
-
-    /// The greatest number of records.
+    /// The greatest number of records of a capture.
     pub fn most_records(self) -> u64
         ensures { result ≡ most_records self }
     {
@@ -58,14 +86,14 @@ fn number(text: &[u8], most: u64) -> Option<u64>
     decimal(text, most)
 }
 
-// The header of a capture of version 1 by the text of its length.
-fn first_version(run: &[u8]) -> Option<Header>
-    ensures header { result ≡ first_version (at_most (longest_run Version.One) (decimal_value run.now)) }
+// The header of version 1 by the text of its length.
+fn first_version(file: RunFile, run: &[u8]) -> Option<Header>
+    ensures header { result ≡ first_version (at_most (longest_run file Version.One) (decimal_value run.now)) }
     ensures within { (width : ℕ) → IfSome result (λ header. IsWithinTable width header.announce) }
     ensures few { IfSome result (λ header. header.run_ticks ≤ 2 ^ 40) }
 {
     let version = Version::One;
-    let Some(run_ticks) = number(run, version.longest_run()) else {
+    let Some(run_ticks) = number(run, file.longest_run(version)) else {
         return None;
     };
     Some(Header {
@@ -80,14 +108,20 @@ fn first_version(run: &[u8]) -> Option<Header>
     })
 }
 
-// The header of a capture of version 2 by the texts of its three numbers.
-fn with_channels(width: usize, run: &[u8], hdlc: &[u8], pointer: &[u8]) -> Option<Header>
-    ensures header { result ≡ with_channels width (at_most (longest_run Version.Two) (decimal_value run.now)) (at_most 255 (decimal_value hdlc.now)) (at_most 255 (decimal_value pointer.now)) }
+// The header of version 2 by the texts of its three numbers.
+fn with_channels(
+    file: RunFile,
+    width: usize,
+    run: &[u8],
+    hdlc: &[u8],
+    pointer: &[u8],
+) -> Option<Header>
+    ensures header { result ≡ with_channels width (at_most (longest_run file Version.Two) (decimal_value run.now)) (at_most 255 (decimal_value hdlc.now)) (at_most 255 (decimal_value pointer.now)) }
     ensures within { IfSome result (λ header. IsWithinTable width header.announce) }
     ensures few { IfSome result (λ header. header.run_ticks ≤ 2 ^ 40) }
 {
     let version = Version::Two;
-    let Some(run_ticks) = number(run, version.longest_run()) else {
+    let Some(run_ticks) = number(run, file.longest_run(version)) else {
         return None;
     };
     let Some(hdlc) = number(hdlc, 255) else {
@@ -106,9 +140,9 @@ fn with_channels(width: usize, run: &[u8], hdlc: &[u8], pointer: &[u8]) -> Optio
     }
 }
 
-// The header of a capture of version 2 by the text after its word.
-fn second_version(width: usize, fields: &[u8]) -> Option<Header>
-    ensures header { result ≡ with_run width (at_first_space fields.now) }
+// The header of version 2 by the text after its word.
+fn second_version(file: RunFile, width: usize, fields: &[u8]) -> Option<Header>
+    ensures header { result ≡ with_run file width (at_first_space fields.now) }
     ensures within { IfSome result (λ header. IsWithinTable width header.announce) }
     ensures few { IfSome result (λ header. header.run_ticks ≤ 2 ^ 40) }
 {
@@ -118,25 +152,35 @@ fn second_version(width: usize, fields: &[u8]) -> Option<Header>
     let Some((hdlc, pointer)) = at_first_space(channels) else {
         return None;
     };
-    with_channels(width, run, hdlc, pointer)
+    with_channels(file, width, run, hdlc, pointer)
 }
 
 /// What the first line of a capture says, in words of so many octets: `capture H`, or `capture2 H HDLC POINTER`. None where the
 /// line is no header.
-#[tactic(auto, unfolding(crate::specs::Capture::header_of))]
 pub fn read_header(width: usize, line: &[u8]) -> Option<Header>
     ensures header { result ≡ header_of width line.now }
+    ensures within { IfSome result (λ header. IsWithinTable width header.announce) }
+    ensures few { IfSome result (λ header. header.run_ticks ≤ 2 ^ 40) }
+{
+    read_run_header(RunFile::Capture, width, line)
+}
+
+/// What the first line of such a file says, in words of so many octets: its word and H, or its other word and H HDLC POINTER.
+/// None where the line is no header.
+#[tactic(auto, unfolding(crate::specs::Capture::run_header))]
+pub fn read_run_header(file: RunFile, width: usize, line: &[u8]) -> Option<Header>
+    ensures header { result ≡ run_header file width line.now }
     ensures within { IfSome result (λ header. IsWithinTable width header.announce) }
     ensures few { IfSome result (λ header. header.run_ticks ≤ 2 ^ 40) }
 {
     let Some((word, fields)) = at_first_space(line) else {
         return None;
     };
-    if word == b"capture".as_slice() {
-        return first_version(fields);
+    if word == file.word(Version::One).as_bytes() {
+        return first_version(file, fields);
     }
-    if word == b"capture2".as_slice() {
-        return second_version(width, fields);
+    if word == file.word(Version::Two).as_bytes() {
+        return second_version(file, width, fields);
     }
     None
 }

@@ -1,6 +1,7 @@
 // Text on its way to a sink.
-ghost use Rattle.std.specs.Prelude.{◌≡◌, ◌+◌, ◌^◌, ◌<◌, ◌≤◌, ◌++◌, ◌∷◌, [], length, decimal, OnOk};
+ghost use Rattle.std.specs.Prelude.{◌≡◌, ◌+◌, ◌*◌, ◌^◌, ◌<◌, ◌≤◌, ◌++◌, ◌∷◌, [], length, decimal, OnOk};
 ghost use Rattle.std.specs.Fmt.{signed_decimal};
+ghost use Rattle.hex.specs.Hex.{encode_lower};
 ghost use Rattle.link_base.specs.Faults.{HasCause};
 ghost use Rattle.link_base.specs.Sink.{Appends, AppendsFront};
 ghost use Rattle.link_text.specs.Gathered.{Gathers, text_capacity};
@@ -95,6 +96,17 @@ impl TextBuffer {
         ensures { self.new ≡ self.old ++ L.text piece.now }
     {
         self.len = piece.lay(&mut self.octets, self.len);
+    }
+
+    /// Appends the hexadecimal digits of octets, letters in lower case.
+    pub fn put_hex(&mut self, octets: &[u8])
+        requires { length self.old + 2 * length octets.now ≤ text_capacity }
+        ensures text { self.new ≡ self.old ++ encode_lower octets.now }
+        ensures long { length self.new ≡ length self.old + 2 * length octets.now }
+    {
+        let end = self.len + 2 * octets.len();
+        let _ = hex::encode_to_slice(octets, &mut self.octets[self.len..end]);
+        self.len = end;
     }
 
     // Appends a number of one digit or two.

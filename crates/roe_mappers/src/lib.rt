@@ -20,6 +20,7 @@ mod unmapping;
 pub use laws::parts_are_given_back;
 pub use mapping::map_frame;
 pub use route::Route;
+pub use spelling::spell;
 pub use unmapping::{Unmapped, unmap_frame};
 
 #[cfg(test)]

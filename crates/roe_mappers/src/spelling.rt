@@ -6,8 +6,9 @@ ghost use Rattle.line_code.specs.Packed.{symbols_in};
 
 use line_code::{Char, Rd, encode, five_octets};
 
-// Writes the symbols that spell the characters of frame n, from the disparity `rd` on, and says the disparity after them.
-pub(crate) fn spell(octets: &[u8], n: u64, rd: Rd, out: &mut [u8]) -> Rd
+/// Writes the symbols that spell the characters of frame n, from the disparity `rd` on, four in five octets, and says the
+/// disparity after them.
+pub fn spell(octets: &[u8], n: u64, rd: Rd, out: &mut [u8]) -> Rd
     requires groups { length octets.now % 4 ≡ 0 }
     requires room { 4 * length out.old ≡ 5 * length octets.now }
     ensures symbols { symbols_in out.new ≡ symbols_of rd (frame_characters n octets.now) }
