@@ -1,5 +1,5 @@
 -- Frames and packets of streams that agree on what was handed in before are the same.
-use Rattle.std.proofs.Common.{◌≡◌, ℕ, zero, suc, ◌+◌, ◌*◌, ◌<◌, ◌≤◌, Bool, List, ◌∷◌, ◌++◌, map, flat_map, refl, sym, ap, ◌∙◌, arith}
+use Rattle.std.proofs.Common.{◌≡◌, ℕ, zero, suc, ◌+◌, ◌*◌, ◌<◌, ◌≤◌, List, ◌∷◌, ◌++◌, map, flat_map, refl, ap, ◌∙◌, arith}
 use Rattle.std.specs.Bool.{one_answer}
 use Rattle.std.specs.List.{range_with_len}
 use Rattle.carrier_plan.specs.declared.plan.Flow.{Flow}
@@ -13,7 +13,6 @@ use Rattle.line_code.specs.declared.characters.Rd.TheVariants.{Minus}
 use Rattle.plan_checker.specs.Rules.{IsGood}
 use Rattle.plan_checker.specs.WordSize.{iq_bits, word_size}
 use Rattle.roe_header.specs.Layout.{packet_octets}
-use Rattle.link_sender.specs.Frames.{CarriesOne}
 use Rattle.link_sender.specs.Laws.{AgreesBefore}
 use Rattle.link_sender.specs.Managed.{managed}
 use Rattle.link_sender.specs.Packets.{packet_fields}
