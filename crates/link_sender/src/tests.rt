@@ -1,12 +1,12 @@
 //! The first packets of a run, in each mode.
 ghost use Rattle.std.specs.Prelude.{◌≡◌, ◌<◌, length};
 ghost use Rattle.plan_checker.specs.Run.{samples_due};
-ghost use Rattle.plan_checker.specs.WordSize.{word_size};
 
-use crate::Sender;
+use crate::AnySender;
 use carrier_plan::read;
+use control_words::Announce;
 use link_base::NoMemory;
-use plan_checker::{Checked, check, octets_of_word};
+use plan_checker::{Checked, check};
 use sample_bits::RawIq;
 use std::alloc::Global;
 use std::process::Abort;
@@ -49,16 +49,22 @@ const ROWS: [Row; 4] = [
     ),
 ];
 
-// A plan that meets the rules, in words of one octet, whose first carrier hands in a sample at tick 0.
+/// No management channels.
+const ANNOUNCE: Announce = Announce {
+    version: 1,
+    hdlc: 0,
+    pointer: 0,
+    l1: 0,
+};
+
+// A plan that meets the rules, whose first carrier hands in a sample at tick 0.
 fn checked(rt: &impl Abort, alloc: Global, text: &str) -> Checked
-    ensures words { 1 ≡ word_size result.option }
     ensures carriers { 0 < length result.carriers }
     ensures flows { 0 < length result.flows }
     ensures due { samples_due result 0 0 ≡ 1 }
 {
     let plan = read(alloc, text.as_bytes()).expect(rt, "a plan");
     let checked = check(plan).expect(rt, "a plan that meets the rules");
-    assert!(rt; octets_of_word(checked.plan().option) == 1);
     assert!(rt; checked.plan().carriers.len() > 0);
     assert!(rt; checked.plan().flows.len() > 0);
     assert!(rt; checked.due(0, 0) == 1);
@@ -66,7 +72,7 @@ fn checked(rt: &impl Abort, alloc: Global, text: &str) -> Checked
 }
 
 // The next packet begins with these octets from the subtype on.
-fn compare(rt: &impl Abort, sender: &Sender<1>, octets: &[u8])
+fn compare(rt: &impl Abort, sender: &AnySender, octets: &[u8])
     requires { 0 < length sender.now.plan.flows }
 {
     let packet = sender.ready(0).expect(rt, "a packet");
@@ -83,18 +89,19 @@ fn send(
     first: &[u8],
     second: &[u8],
 ) -> Result<(), NoMemory>
-    requires words { 1 ≡ word_size checked.now.option }
     requires carriers { 0 < length checked.now.carriers }
     requires flows { 0 < length checked.now.flows }
     requires due { samples_due checked.now 0 0 ≡ 1 }
 {
-    let mut sender = Sender::<1>::begin(alloc, checked, 1)?;
+    let mut sender = AnySender::begin_with(alloc, checked, 1, ANNOUNCE)?;
     let taken = sender.hand_in(0, &[RawIq { i: 5, q: -3 }]);
     assert!(rt; taken.is_ok());
     sender.tick();
+    assert!(rt; sender.frame().first() == Some(&0xbc));
     compare(rt, &sender, first);
     sender.tick();
     compare(rt, &sender, second);
+    assert!(rt; sender.now() == 2);
     Ok(())
 }
 
