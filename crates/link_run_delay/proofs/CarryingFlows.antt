@@ -1,5 +1,5 @@
 -- The flow that carries a carrier of a good plan.
-use Rattle.std.proofs.Common.{◌≡◌, ℕ, zero, suc, ◌+◌, ◌<◌, ◌≤◌, Bool, true, false, IsTrue, List, [], ◌∷◌, length, get_or, Contains, Some, cond, count_by, eqb, ap, ◌∙◌, subst, arith, inl, inr}
+use Rattle.std.proofs.Common.{◌≡◌, ℕ, zero, suc, ◌+◌, ◌<◌, ◌≤◌, Bool, true, false, IsTrue, List, [], ◌∷◌, length, get_or, Contains, Some, cond, count_by, eqb, refl, ap, ◌∙◌, subst, arith, inl, inr}
 use Rattle.std.specs.List.{find}
 use Rattle.std.proofs.lemmas.Bool.{cases_Bool, cond-false, cond-true, eqb-true}
 use Rattle.std.proofs.lemmas.List.Folds.{Any-from_list_any}
@@ -44,6 +44,18 @@ module _ {X : Type 0} (test : X → Bool) where
             cond-false (test y) (Some y) (find test ys) other ∙ find-only ys k x (omega arith) here passes (omega arith)
       ]
 
+  -- an item passes where the count is not 0
+  found-some : (xs : List X) → 1 ≤ count_by test xs → (x : X) × Contains xs x × (test x ≡ true)
+  found-some [] some = absurd (omega arith)
+  found-some (y ∷ ys) some =
+      elim (cases_Bool (test y)) [
+        | inl first ↦ (y, (0, omega arith, refl), first)
+        | inr other ↦
+            let same = count_by-fails y ys other in
+            let found = found-some ys (omega arith) in
+            (found.0, (suc found.1.0, omega (arith, found.1.1), found.1.2), found.2)
+      ]
+
 -- ---- flows
 
 -- a flow that lists a carrier is found by it
@@ -58,3 +70,17 @@ contains-lists f c passes =
     let found = Any-from_list_any (λ number. eqb number c) f.carriers passes in
     let is : found.1 ≡ c = eqb-true found.1 c found.4 in
     subst (Contains f.carriers) is (found.0, found.2, found.3)
+
+-- a good plan has one flow with control, and it is found
+pub record HasControlFlow (p : Plan) : Type 0 where
+  pub flow : Flow
+  pub listed : Contains p.flows flow
+  pub control : IsTrue flow.control
+  pub found : find (λ (f : Flow). f.control) p.flows ≡ Some flow
+
+pub control_flow : (p : Plan) → IsGood p → HasControlFlow p
+control_flow p good =
+    let control : Flow → Bool = λ (f : Flow). f.control in
+    let one : count_by control p.flows ≡ 1 = (good SharedOut 0 (omega arith)).one_control in
+    let some = found-some control p.flows (omega arith) in
+    record { flow = some.0; listed = some.1; control = some.2; found = find-only control p.flows some.1.0 some.0 some.1.1 some.1.2 some.2 one }

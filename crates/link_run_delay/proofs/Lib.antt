@@ -12,3 +12,4 @@ pub mod OctetsOfSymbols
 pub mod FramesOfStreams
 pub mod PartsOfFrames
 pub mod PacketsOfStreams
+pub mod ReceivedControl

@@ -58,11 +58,11 @@ some_frames_of : (p : Plan) (f : Flow) → IsGood p → Contains p.flows f → 1
 some_frames_of p f good listed = (at_contained (HasPayload p) p.flows f (good PayloadSize) listed).some_frames
 
 -- what is received of a frame that is not missed
-record IsKept (p : Plan) (σ : Stream) (f : Flow) (h : ℕ) (records : List Record) (n : ℕ) : Type 0 where
-  part : List ℕ
-  received : part_of_frame p f h records n ≡ Some part
-  carries : CarriesFrame p σ f n part
-  not_lost : ¬ IsLost p σ f records (n / f.frames)
+pub record IsKept (p : Plan) (σ : Stream) (f : Flow) (h : ℕ) (records : List Record) (n : ℕ) : Type 0 where
+  pub part : List ℕ
+  pub received : part_of_frame p f h records n ≡ Some part
+  pub carries : CarriesFrame p σ f n part
+  pub not_lost : ¬ IsLost p σ f records (n / f.frames)
 
 module _ (law : PartsAreGivenBack) (p : Plan) (h : ℕ) (σ : Stream) (records : List Record) (good : IsGood p) (plain : IsPlain p) (fresh : AreFresh p h σ records) (f : Flow) (listed : Contains p.flows f) (n : ℕ) where
   -- the octets of the frame, by the payload of its packet
@@ -96,7 +96,7 @@ module _ (law : PartsAreGivenBack) (p : Plan) (h : ℕ) (σ : Stream) (records :
     not_lost = received-not_lost p h σ f good plain listed records (n / f.frames) payload fresh e;
   }
 
-  kept_if_not_missed : is_missed p f h records n ≡ false → IsKept p σ f h records n
+  pub kept_if_not_missed : is_missed p f h records n ≡ false → IsKept p σ f h records n
   unfolding part_of_frame
   kept_if_not_missed kept = kept_by (received p f h records (n / f.frames)) refl kept
 

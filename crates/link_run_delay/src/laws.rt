@@ -1,4 +1,5 @@
 // Laws over all streams and captures.
+ghost use Rattle.link_run_delay.specs.ControlIsSent.{ControlIsSent};
 ghost use Rattle.link_run_delay.specs.Delay.{ReadPlansArePlain, SamplesAreDelayed};
 ghost use Rattle.link_run_delay.specs.Existing.{PacketsExist};
 
@@ -20,4 +21,11 @@ pub fn packets_exist()
     ensures { PacketsExist }
 {
     line_code::spelled_in_ten_bits();
+}
+
+/// The control word of each frame that is not missed in the flow that has control is the one that was sent.
+pub fn control_is_sent()
+    ensures { ControlIsSent }
+{
+    roe_mappers::parts_are_given_back();
 }
