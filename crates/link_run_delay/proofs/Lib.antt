@@ -12,4 +12,7 @@ pub mod OctetsOfSymbols
 pub mod FramesOfStreams
 pub mod PartsOfFrames
 pub mod PacketsOfStreams
+pub mod StreamOctets
+pub mod StreamChannels
+pub mod ChannelOctets
 pub mod ReceivedControl

@@ -1,4 +1,5 @@
 // Laws over all streams and captures.
+ghost use Rattle.link_run_delay.specs.ChannelsArePrefixes.{ChannelsArePrefixes};
 ghost use Rattle.link_run_delay.specs.ControlIsSent.{ControlIsSent};
 ghost use Rattle.link_run_delay.specs.Delay.{ReadPlansArePlain, SamplesAreDelayed};
 ghost use Rattle.link_run_delay.specs.Existing.{PacketsExist};
@@ -29,3 +30,8 @@ pub fn control_is_sent()
 {
     roe_mappers::parts_are_given_back();
 }
+
+/// The octets of each management channel in the control words of a stream are the first ones of what the channel writes.
+pub fn channels_are_prefixes()
+    ensures { ChannelsArePrefixes }
+{}

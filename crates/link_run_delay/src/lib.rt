@@ -4,4 +4,7 @@
 
 mod laws;
 
-pub use laws::{control_is_sent, packets_exist, read_plans_are_plain, samples_are_delayed};
+pub use laws::{
+    channels_are_prefixes, control_is_sent, packets_exist, read_plans_are_plain,
+    samples_are_delayed,
+};
