@@ -12,7 +12,10 @@ pub mod OctetsOfSymbols
 pub mod FramesOfStreams
 pub mod PartsOfFrames
 pub mod PacketsOfStreams
+pub mod EndingSteps
+pub mod WrittenEndings
 pub mod StreamOctets
 pub mod StreamChannels
 pub mod ChannelOctets
+pub mod PrefixReading
 pub mod ReceivedControl

@@ -3,6 +3,7 @@ ghost use Rattle.link_run_delay.specs.ChannelsArePrefixes.{ChannelsArePrefixes};
 ghost use Rattle.link_run_delay.specs.ControlIsSent.{ControlIsSent};
 ghost use Rattle.link_run_delay.specs.Delay.{ReadPlansArePlain, SamplesAreDelayed};
 ghost use Rattle.link_run_delay.specs.Existing.{PacketsExist};
+ghost use Rattle.link_run_delay.specs.PrefixesAreRead.{PrefixesAreRead};
 
 /// Each sample of a stream leaves unchanged after its delay, or is marked, whatever packets of the stream arrive, and when.
 pub fn samples_are_delayed()
@@ -35,3 +36,11 @@ pub fn control_is_sent()
 pub fn channels_are_prefixes()
     ensures { ChannelsArePrefixes }
 {}
+
+/// Of the first octets of a channel the frames that are whole in them are read, in order, and nothing else.
+pub fn prefixes_are_read()
+    ensures { PrefixesAreRead }
+{
+    hdlc_channel::stream_is_read();
+    ethernet_channel::queued_frames_are_found();
+}

@@ -5,6 +5,6 @@
 mod laws;
 
 pub use laws::{
-    channels_are_prefixes, control_is_sent, packets_exist, read_plans_are_plain,
+    channels_are_prefixes, control_is_sent, packets_exist, prefixes_are_read, read_plans_are_plain,
     samples_are_delayed,
 };
