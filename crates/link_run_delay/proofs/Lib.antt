@@ -13,9 +13,12 @@ pub mod FramesOfStreams
 pub mod PartsOfFrames
 pub mod PacketsOfStreams
 pub mod EndingSteps
+pub mod SlowLines
+pub mod FastLines
 pub mod WrittenEndings
 pub mod StreamOctets
 pub mod StreamChannels
 pub mod ChannelOctets
 pub mod PrefixReading
 pub mod ReceivedControl
+pub mod Arriving

@@ -3,6 +3,7 @@ ghost use Rattle.link_run_delay.specs.ChannelsArePrefixes.{ChannelsArePrefixes};
 ghost use Rattle.link_run_delay.specs.ControlIsSent.{ControlIsSent};
 ghost use Rattle.link_run_delay.specs.Delay.{ReadPlansArePlain, SamplesAreDelayed};
 ghost use Rattle.link_run_delay.specs.Existing.{PacketsExist};
+ghost use Rattle.link_run_delay.specs.ManagementArrives.{ManagementArrives};
 ghost use Rattle.link_run_delay.specs.PrefixesAreRead.{PrefixesAreRead};
 
 /// Each sample of a stream leaves unchanged after its delay, or is marked, whatever packets of the stream arrive, and when.
@@ -43,4 +44,14 @@ pub fn prefixes_are_read()
 {
     hdlc_channel::stream_is_read();
     ethernet_channel::queued_frames_are_found();
+}
+
+/// Where no frame of a run is missed in the flow that has control, each management frame that is whole within the run is printed
+/// once, in order, and nothing else is printed about the channels.
+pub fn management_arrives()
+    ensures { ManagementArrives }
+{
+    control_is_sent();
+    channels_are_prefixes();
+    prefixes_are_read();
 }
