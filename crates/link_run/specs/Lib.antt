@@ -1,3 +1,4 @@
 pub mod Call
 pub mod CodeForm
 pub mod Plays
+pub mod Arrives

@@ -8,7 +8,7 @@ ghost use Rattle.link_run.specs.Plays.{PlaysCapture};
 
 use crate::form::{Form, form_of};
 use link_base::{Shelf, Sink};
-use link_run_delay::samples_are_delayed;
+use link_run_delay::{management_arrives, samples_are_delayed};
 use link_run_feed::Status;
 use link_run_inspect::inspect;
 use link_run_plan::check_plan;
@@ -31,6 +31,7 @@ pub fn run<H: Shelf, K: Sink>(alloc: Global, words: &[String], shelf: &mut H, ou
         → result ≡ Status.Done → PlaysCapture plan capture (H.shown shelf.old).held (K.taken out.old) (K.taken out.new) }
 {
     samples_are_delayed();
+    management_arrives();
     run_form(alloc, form_of(words), shelf, out)
 }
 

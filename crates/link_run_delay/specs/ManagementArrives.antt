@@ -41,6 +41,10 @@ unfoldable pub arriving_lines : ℕ → Stream → (tick n : ℕ) → List ℕ
 arriving_lines Y σ tick n =
     flat_map (slow_frame_line tick) (slow_frames Y σ n (n + 1)) ++ flat_map (fast_frame_line tick) (fast_frames Y σ n (n + 1))
 
+-- no frame of a run of h ticks is missed in the flow that has control
+abbrev pub IsControlWhole : Plan → ℕ → List Record → Type 0
+IsControlWhole p h records = (n : ℕ) → n < h + longest_block p → IsControlReceived p h records n
+
 -- the control words of the frames below n, as they are received
 abbrev pub received_words : Plan → ℕ → List Record → ℕ → List (Option (List ℕ))
 received_words p h records n = map (control_of_frame p h records) (range_with_len 0 n)
@@ -63,5 +67,5 @@ pub record ManagementIsPrinted (p : Plan) (h : ℕ) (σ : Stream) (records : Lis
 abbrev pub ManagementArrives : Type 0
 ManagementArrives =
     (p : Plan) (h : ℕ) (σ : Stream) (records : List Record) → IsGood p → IsPlain p → IsStream p h σ
-    → AreUnaltered p h σ records → AreFresh p h σ records → ((n : ℕ) → n < h + longest_block p → IsControlReceived p h records n)
+    → AreUnaltered p h σ records → AreFresh p h σ records → IsControlWhole p h records
     → ManagementIsPrinted p h σ records (h + longest_block p)

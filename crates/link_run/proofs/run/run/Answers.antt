@@ -16,4 +16,4 @@ pub returns-clause-replays : goal.returns-clause-replays
 returns-clause-replays g c =
     plays_words _ (g.H.Shelf.shown c.args.shelf.now) (g.H.Shelf.shown c.run_form.new.shelf) (g.K.Sink.taken c.args.out.now) (g.K.Sink.taken c.run_form.new.out) c.run_form.result
     (rw c.form_of.ensures at c.run_form.ensures.promises)
-    c.samples_are_delayed.ensures
+    c.samples_are_delayed.ensures c.management_arrives.ensures
