@@ -9,8 +9,6 @@ mod mem_sink;
 mod memory;
 mod outside;
 mod std_sink;
-#[cfg(test)]
-mod tests;
 
 pub use file_shelf::FileShelf;
 pub use filling::fill;

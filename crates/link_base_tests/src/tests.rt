@@ -1,5 +1,5 @@
 // Shelves and sinks in memory at their edges, and those of the system once.
-use crate::{Failed, FileShelf, MemShelf, MemSink, NoMemory, Shelf, Sink, StdSink, put_all};
+use link_base::{Failed, FileShelf, MemShelf, MemSink, NoMemory, Shelf, Sink, StdSink, put_all};
 use std::alloc::Global;
 use std::path::Path;
 use std::process::Abort;
