@@ -20,6 +20,3 @@ pub use piece_list::PieceList;
 pub use plan::{Carrier, Flow, Method, Mode, Piece, Plan};
 pub use printing::print;
 pub use reading::read;
-
-#[cfg(test)]
-mod tests;

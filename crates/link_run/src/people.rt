@@ -2,7 +2,7 @@
 use crate::form::{Form, form_of};
 use link_base::FileShelf;
 use link_run_feed::{Reason, Status};
-use link_run_plan::explain_plan;
+use plan_sentences::explain_plan;
 use std::io;
 
 /// Says on standard error what standard output does not: the calls that there are, the file that could not be read and why,

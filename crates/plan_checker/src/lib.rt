@@ -47,6 +47,3 @@ pub use laws::{
 };
 pub use sharing::Sharing;
 pub use word_size::octets_of_word;
-
-#[cfg(test)]
-mod tests;

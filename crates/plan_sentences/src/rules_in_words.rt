@@ -6,7 +6,7 @@ use plan_checker::{Figures, Refused};
 use std::alloc::{AllocError, Global};
 
 /// One sentence on the first failure of a plan: the rule, the carrier or flow that fails it, and the figures.
-pub fn in_words(alloc: Global, refused: &Refused) -> Result<String, AllocError> {
+pub fn rule_in_words(alloc: Global, refused: &Refused) -> Result<String, AllocError> {
     let place = place_in_words(alloc, refused.rule, refused.item)?;
     match refused.figures() {
         Some(figures) => {

@@ -1,12 +1,14 @@
 // What people are told of a plan that is refused, on standard error.
 use crate::faults_in_words::fault_in_words;
-use crate::plan_file::read_plan_file;
-use crate::rules_in_words::{in_words, place_in_words};
+use crate::rules_in_words::{place_in_words, rule_in_words};
 use carrier_plan::{PlanText, read};
-use link_base::FileShelf;
+use link_base::{FileShelf, Shelf, fill};
 use link_run_feed::Status;
 use plan_checker::{Refused, check};
 use std::{fs, io};
+
+/// One octet more than a plan may have.
+const MOST_OCTETS: usize = 65_537;
 
 /// Says why the plan of this name was refused with this status: the rule that fails with its figures, or where the text is no
 /// plan, what stands there and what is asked for. It says nothing where the status is another.
@@ -23,7 +25,12 @@ fn octets_of(rt: &HostRuntime, name: &str) -> Option<Vec<u8>> {
     if !fs::metadata(rt, name).ok()?.is_file() {
         return None;
     }
-    read_plan_file(rt.alloc(), &mut FileShelf::new(rt), name).ok()
+    let mut shelf = FileShelf::new(rt);
+    shelf.select(name).ok()?;
+    let mut octets = vec![in rt.alloc(); 0u8; MOST_OCTETS].ok()?;
+    let count = fill(&mut shelf, octets.as_mut_slice()).ok()?;
+    octets.truncate(count);
+    Some(octets)
 }
 
 fn refusal_of(rt: &HostRuntime, name: &str) -> Option<Refused> {
@@ -35,7 +42,7 @@ fn refusal_of(rt: &HostRuntime, name: &str) -> Option<Refused> {
 fn explain_rule(rt: &HostRuntime, name: &str, rule: u32, item: u32) -> io::Result<()> {
     match refusal_of(rt, name) {
         Some(refused) if refused.rule == rule && refused.item == item => {
-            let sentence = in_words(rt.alloc(), &refused)?;
+            let sentence = rule_in_words(rt.alloc(), &refused)?;
             eprintln!(rt; "roe_link: {name}: {sentence}")
         }
         _ => {

@@ -1,31 +1,15 @@
 // What people are told of a plan that is refused.
-use super::{CARRIER, FLOW, TOP, TOP_OF_PIECES, plan_of};
-use crate::faults_in_words::fault_in_words;
-use crate::rules_in_words::in_words;
+use crate::plans::{CARRIER, FLOW, IN_PIECES, SIMPLEST, TWO_FLOWS, TWO_IN_PIECES, changed};
 use carrier_plan::{ReadError, read};
 use plan_checker::check;
+use plan_sentences::{fault_in_words, rule_in_words};
 use std::alloc::Global;
 use std::process::Abort;
 use std::test::Fail;
 
-/// The line of `TOP`, its mode and its playout.
-const LINE: &str = "option = 1\nmode = \"bytes\"\nplayout = 2";
-
-/// A carrier of 32 samples in each frame, with 20 bits of I and of Q.
-const LARGE_CARRIER: &str =
-    "[[carrier]]\nmethod = 1\ns = 32\nk = 1\nm = 20\nstart = 0\nsize = 1280\n";
-
-/// A flow of nine frames in a packet.
-const FLOW_OF_NINE: &str =
-    "[[flow]]\nid = 7\ndst = \"020000000001\"\nsrc = \"020000000002\"\ncontrol = true\ncarriers = [0]\nframes = 9\nlmin = 0\nlmax = 2\ncap = 3\np = 4\nq = 4\n";
-
-/// A carrier of two pieces.
-const CARRIER_IN_PIECES: &str =
-    "[[carrier]]\nmethod = 1\ns = 1\nk = 1\nm = 8\npieces = [[0, 10], [100, 6]]\n";
-
-/// Two carriers in mode `aware`, each in a flow of its own.
-const TWO_FLOWS: &str =
-    "version = 1\noption = 1\nmode = \"aware\"\nplayout = 2\n[[carrier]]\nmethod = 1\ns = 1\nk = 1\nm = 8\nstart = 0\nsize = 16\n[[carrier]]\nmethod = 1\ns = 1\nk = 1\nm = 8\nstart = 16\nsize = 16\n[[flow]]\nid = 7\ndst = \"020000000001\"\nsrc = \"020000000002\"\ncontrol = true\ncarriers = [0]\nframes = 1\nlmin = 0\nlmax = 2\ncap = 3\np = 4\nq = 4\n[[flow]]\nid = 8\ndst = \"020000000001\"\nsrc = \"020000000002\"\ncontrol = false\ncarriers = [1]\nframes = 1\nlmin = 0\nlmax = 2\ncap = 3\np = 4\nq = 4\n";
+/// A carrier of 32 samples in each frame with 20 bits of I and of Q, and a flow of nine frames in a packet.
+const LARGE: &str =
+    "version = 1\noption = 7\nmode = \"bytes\"\nplayout = 20\n[[carrier]]\nmethod = 1\ns = 32\nk = 1\nm = 20\nstart = 0\nsize = 1280\n[[flow]]\nid = 7\ndst = \"020000000001\"\nsrc = \"020000000002\"\ncontrol = true\ncarriers = [0]\nframes = 9\nlmin = 0\nlmax = 2\ncap = 3\np = 4\nq = 4\n";
 
 /// A part of a plan's text, what stands in its place, and the sentence.
 type Row<'a> = (&'a str, &'a str, &'a str);
@@ -34,7 +18,7 @@ fn sentence_on(alloc: Global, text: &str) -> Result<String, Fail> {
     match read(alloc, text.as_bytes()) {
         Ok(plan) => match check(plan) {
             Ok(_) => Ok(String::from_str(alloc, "every rule holds")?),
-            Err(refused) => Ok(in_words(alloc, &refused)?),
+            Err(refused) => Ok(rule_in_words(alloc, &refused)?),
         },
         Err(ReadError::Text(fault)) => Ok(fault_in_words(alloc, text.as_bytes(), fault)?),
         Err(ReadError::NoMemory) => Ok(String::from_str(alloc, "out of memory")?),
@@ -49,8 +33,8 @@ fn assert_sentences(
     rows: &[Row<'_>],
 ) -> Result<(), Fail> {
     for (old, new, sentence) in rows {
-        let changed = plan.replacen(alloc, *old, *new, 1)?;
-        assert_eq!(rt; sentence_on(alloc, changed.as_str())?.as_str(), *sentence);
+        let plan = changed(alloc, plan, old, new)?;
+        assert_eq!(rt; sentence_on(alloc, plan.as_str())?.as_str(), *sentence);
     }
     Ok(())
 }
@@ -88,12 +72,6 @@ const OF_PLAN: [Row<'static>; 7] = [
         "rule 3: flow 0 lists 0 carriers, and has to list all 1 unless the mode is aware",
     ),
 ];
-
-#[test]
-fn a_rule_on_the_plan_is_told_with_its_figures(rt: HostRuntime) -> Result<(), Fail> {
-    let plan = plan_of(rt.alloc(), TOP, CARRIER, FLOW)?;
-    assert_sentences(&rt, rt.alloc(), plan.as_str(), &OF_PLAN)
-}
 
 const OF_CARRIER: [Row<'static>; 10] = [
     (
@@ -148,37 +126,30 @@ const OF_CARRIER: [Row<'static>; 10] = [
     ),
 ];
 
-#[test]
-fn a_rule_on_a_carrier_is_told_with_its_figures(rt: HostRuntime) -> Result<(), Fail> {
-    let plan = plan_of(rt.alloc(), TOP, CARRIER, FLOW)?;
-    assert_sentences(&rt, rt.alloc(), plan.as_str(), &OF_CARRIER)
-}
-
-const OF_PIECES: [Row<'static>; 7] = [
-    ("m = 8", "m = 8", "every rule holds"),
+const OF_PIECES: [Row<'static>; 6] = [
     (
-        "[[0, 10], [100, 6]]",
+        "[]",
         "[]",
         "rule 6, carrier 0: it has 0 pieces, and has to have 1 to 4",
     ),
     (
-        "6]",
-        "5]",
+        "[]",
+        "[[0, 10], [100, 5]]",
         "rule 6, carrier 0: the sizes of its 2 pieces add up to 15, and 16 is prescribed, 2 * ceil(8 * 1 / 1) by method 1",
     ),
     (
-        "[100",
-        "[115",
+        "[]",
+        "[[0, 10], [115, 6]]",
         "rule 7, carrier 0: start + size of its piece 1 is 115 + 6 = 121, and has to be at most 120, the IQ bits of a frame on option 1",
     ),
     (
-        "[100",
-        "[9",
+        "[]",
+        "[[0, 10], [9, 6]]",
         "rule 8, carrier 0: piece 1 of carrier 0 and piece 0 of carrier 0 share the IQ bits 9 to 9, and have to be apart",
     ),
     (
-        "[0, 10]",
-        "[0, 10, 1]",
+        "[]",
+        "[[0, 10, 1], [100, 6]]",
         "pieces of carrier 0 is an array with an array of 3, and has to be an array of pairs [start, size] of whole numbers from 0 to 4294967295",
     ),
     (
@@ -188,11 +159,14 @@ const OF_PIECES: [Row<'static>; 7] = [
     ),
 ];
 
-#[test]
-fn pieces_are_told_with_their_figures(rt: HostRuntime) -> Result<(), Fail> {
-    let plan = plan_of(rt.alloc(), TOP_OF_PIECES, CARRIER_IN_PIECES, FLOW)?;
-    assert_sentences(&rt, rt.alloc(), plan.as_str(), &OF_PIECES)
-}
+const OF_SHARED_PIECES: [Row<'static>; 2] = [
+    ("[48, 8]", "[48, 8]", "every rule holds"),
+    (
+        "[48, 8]",
+        "[44, 8]",
+        "rule 8, carrier 1: piece 1 of carrier 1 and piece 1 of carrier 0 share the IQ bits 44 to 47, and have to be apart",
+    ),
+];
 
 const SHARED: [Row<'static>; 11] = [
     ("id = 8", "id = 9", "every rule holds"),
@@ -248,11 +222,6 @@ const SHARED: [Row<'static>; 11] = [
     ),
 ];
 
-#[test]
-fn what_carriers_and_flows_share_is_told(rt: HostRuntime) -> Result<(), Fail> {
-    assert_sentences(&rt, rt.alloc(), TWO_FLOWS, &SHARED)
-}
-
 const OF_FLOW: [Row<'static>; 9] = [
     (
         "lmin = 0",
@@ -301,36 +270,24 @@ const OF_FLOW: [Row<'static>; 9] = [
     ),
 ];
 
-#[test]
-fn a_rule_on_a_flow_is_told_with_its_figures(rt: HostRuntime) -> Result<(), Fail> {
-    let plan = plan_of(rt.alloc(), TOP, CARRIER, FLOW)?;
-    assert_sentences(&rt, rt.alloc(), plan.as_str(), &OF_FLOW)
-}
-
 // Option 7 has words of 16 octets: 16 of them are 256 octets, and 320 as symbols. A container of 1,280 bits has 160.
 const OF_PAYLOAD: [Row<'static>; 3] = [
     (
-        LINE,
-        "option = 7\nmode = \"tunnel\"\nplayout = 20",
+        "bytes",
+        "tunnel",
         "rule 10, flow 0: its payload is 9 frames of 320 octets, in all 2880, and has to be 1 to 1492 octets",
     ),
     (
-        LINE,
-        "option = 7\nmode = \"bytes\"\nplayout = 20",
+        "bytes",
+        "bytes",
         "rule 10, flow 0: its payload is 9 frames of 256 octets, in all 2304, and has to be 1 to 1492 octets",
     ),
     (
-        LINE,
-        "option = 7\nmode = \"aware\"\nplayout = 20",
+        "bytes",
+        "aware",
         "rule 10, flow 0: its payload is 9 frames of 176 octets, in all 1584, and has to be 1 to 1492 octets",
     ),
 ];
-
-#[test]
-fn the_payload_of_each_mode_is_told(rt: HostRuntime) -> Result<(), Fail> {
-    let plan = plan_of(rt.alloc(), TOP, LARGE_CARRIER, FLOW_OF_NINE)?;
-    assert_sentences(&rt, rt.alloc(), plan.as_str(), &OF_PAYLOAD)
-}
 
 /// What changes in a plan, and what is said of the fault.
 const FAULTS: [Row<'static>; 10] = [
@@ -387,7 +344,18 @@ const FAULTS: [Row<'static>; 10] = [
 ];
 
 #[test]
-fn a_fault_is_told_with_what_stands_there(rt: HostRuntime) -> Result<(), Fail> {
-    let plan = plan_of(rt.alloc(), TOP, CARRIER, FLOW)?;
-    assert_sentences(&rt, rt.alloc(), plan.as_str(), &FAULTS)
+fn a_refused_plan_is_told_of_with_its_figures(rt: HostRuntime) -> Result<(), Fail> {
+    for (plan, rows) in [
+        (SIMPLEST, OF_PLAN.as_slice()),
+        (SIMPLEST, &OF_CARRIER),
+        (IN_PIECES, &OF_PIECES),
+        (TWO_IN_PIECES, &OF_SHARED_PIECES),
+        (TWO_FLOWS, &SHARED),
+        (SIMPLEST, &OF_FLOW),
+        (LARGE, &OF_PAYLOAD),
+        (SIMPLEST, &FAULTS),
+    ] {
+        assert_sentences(&rt, rt.alloc(), plan, rows)?;
+    }
+    Ok(())
 }

@@ -1,4 +1,6 @@
-use super::*;
+// Plans read from text, the first fault of a text that is none, and plans as text.
+use crate::plans::{SIMPLEST, changed};
+use carrier_plan::{ReadError, print, read};
 use std::alloc::{AllocError, Global};
 use std::process::Abort;
 use std::test::Fail;
@@ -6,10 +8,6 @@ use std::test::Fail;
 /// A plan of one carrier, without a flow.
 const PLAN: &str =
     "version = 1\noption = 1\nmode = \"bytes\"\nplayout = 2\n[[carrier]]\nmethod = 1\ns = 1\nk = 1\nm = 8\nstart = 0\nsize = 16\n";
-
-/// A flow of its carrier.
-const FLOW: &str =
-    "[[flow]]\nid = 7\ndst = \"020000000001\"\nsrc = \"0200000000aB\"\ncontrol = true\ncarriers = [0]\nframes = 1\nlmin = 0\nlmax = 2\ncap = 3\np = 4\nq = 5\n";
 
 /// A plan of two carriers and one flow, of addresses in digits of both cases.
 const USUAL: &str =
@@ -22,10 +20,13 @@ const IN_PIECES: &str =
 /// The keys of a plan before its carriers.
 const TOP: &str = "version = 1\noption = 1\nmode = \"aware\"\nplayout = 0\n";
 
-const TOP_OF_PIECES: &str = "version = 2\noption = 1\nmode = \"aware\"\nplayout = 0\n";
+/// The same, and a carrier without its container.
+const CARRIER: &str =
+    "version = 1\noption = 1\nmode = \"aware\"\nplayout = 0\n[[carrier]]\nmethod = 1\ns = 1\nk = 1\nm = 8\n";
 
-/// A carrier without its container, after a top.
-const CARRIER: &str = "[[carrier]]\nmethod = 1\ns = 1\nk = 1\nm = 8\n";
+/// The same in version 2 of plans.
+const CARRIER_OF_PIECES: &str =
+    "version = 2\noption = 1\nmode = \"aware\"\nplayout = 0\n[[carrier]]\nmethod = 1\ns = 1\nk = 1\nm = 8\n";
 
 /// A text, or the end of one, and the line that tells of its fault.
 type FaultRow<'a> = (&'a str, &'a str);
@@ -153,84 +154,23 @@ const OF_FLOW: [(&str, &str, &str); 14] = [
     ("[0]", "[-1, \"0\"]", "plan kind flow 0 carriers"),
     ("[0]", "[0, -1]", "plan value flow 0 carriers"),
     ("[0]", "[]", "a plan"),
-    ("q = 5\n", "q = 5\nrate = 1\n", "plan extra flow 0"),
-    ("q = 5\n", "q = 5\n[[flow]]\n", "plan missing flow 1 id"),
+    ("q = 4\n", "q = 4\nrate = 1\n", "plan extra flow 0"),
+    ("q = 4\n", "q = 4\n[[flow]]\n", "plan missing flow 1 id"),
 ];
 
-/// A carrier: its method, S, K and M, and its pieces.
-type CarrierRow<'a> = (Method, [u32; 3], &'a [Piece]);
-
-/// A flow: its id, its addresses, whether it has control, its carriers, and then F, `lmin`, `lmax`, `cap`, P and Q.
-type FlowRow<'a> = (u32, [[u8; 6]; 2], bool, &'a [u32], [u32; 6]);
-
-/// A text, the option, the mode, the playout, the carriers and the flows of its plan.
-type PlanRow<'a> = (
-    &'a str,
-    u32,
-    Mode,
-    u32,
-    &'a [CarrierRow<'a>],
-    &'a [FlowRow<'a>],
-);
-
-/// A container by `start` and `size` is one piece.
-const PLANS: [PlanRow<'static>; 3] = [
+/// Texts, and what their plans are. A container by `start` and `size` is one piece.
+const PLANS: [(&str, &str); 3] = [
     (
         PLAN,
-        1,
-        Mode::Bytes,
-        2,
-        &[(Method::Sample, [1, 1, 8], &[Piece { start: 0, size: 16 }])],
-        &[],
+        "Plan { option: 1, mode: Bytes, playout: 2, carriers: CarrierList { carriers: [Carrier { method: Sample, s: 1, k: 1, m: 8, pieces: PieceList { pieces: [Piece { start: 0, size: 16 }] } }] }, flows: FlowList { flows: [] } }",
     ),
     (
         USUAL,
-        3,
-        Mode::Bytes,
-        33,
-        &[
-            (
-                Method::Sample,
-                [8, 1, 15],
-                &[Piece {
-                    start: 0,
-                    size: 240,
-                }],
-            ),
-            (
-                Method::Compatible,
-                [8, 1, 15],
-                &[Piece {
-                    start: 240,
-                    size: 240,
-                }],
-            ),
-        ],
-        &[(
-            7,
-            [[2, 0, 0, 0, 0, 10], [2, 0, 0, 0, 0, 0xab]],
-            true,
-            &[0, 1],
-            [4, 10, 30, 6, 256, 257],
-        )],
+        "Plan { option: 3, mode: Bytes, playout: 33, carriers: CarrierList { carriers: [Carrier { method: Sample, s: 8, k: 1, m: 15, pieces: PieceList { pieces: [Piece { start: 0, size: 240 }] } }, Carrier { method: Compatible, s: 8, k: 1, m: 15, pieces: PieceList { pieces: [Piece { start: 240, size: 240 }] } }] }, flows: FlowList { flows: [Flow { id: 7, dst: [2, 0, 0, 0, 0, 10], src: [2, 0, 0, 0, 0, 171], control: true, carriers: NumberList { numbers: [0, 1] }, frames: 4, lmin: 10, lmax: 30, cap: 6, p: 256, q: 257 }] } }",
     ),
     (
         IN_PIECES,
-        1,
-        Mode::Aware,
-        0,
-        &[(
-            Method::Sample,
-            [1, 1, 8],
-            &[
-                Piece { start: 0, size: 10 },
-                Piece {
-                    start: 100,
-                    size: 6,
-                },
-            ],
-        )],
-        &[],
+        "Plan { option: 1, mode: Aware, playout: 0, carriers: CarrierList { carriers: [Carrier { method: Sample, s: 1, k: 1, m: 8, pieces: PieceList { pieces: [Piece { start: 0, size: 10 }, Piece { start: 100, size: 6 }] } }] }, flows: FlowList { flows: [] } }",
     ),
 ];
 
@@ -248,61 +188,55 @@ fn assert_told(rt: &impl Abort, alloc: Global, text: &str, line: &str) -> Result
     Ok(())
 }
 
-// Reads each text after these two.
+// Reads each text behind this front.
 fn assert_faults(
     rt: &impl Abort,
     alloc: Global,
-    top: &str,
-    carrier: &str,
+    front: &str,
     rows: &[FaultRow<'_>],
 ) -> Result<(), Fail> {
     for (rest, line) in rows {
-        let text = format!(in alloc; "{top}{carrier}{rest}")?;
+        let text = format!(in alloc; "{front}{rest}")?;
         assert_told(rt, alloc, text.as_str(), line)?;
     }
     Ok(())
 }
 
-fn assert_faults_of_flow(
+fn assert_changes(
     rt: &impl Abort,
     alloc: Global,
+    plan: &str,
     rows: &[(&str, &str, &str)],
 ) -> Result<(), Fail> {
     for (old, new, line) in rows {
-        let flow = FLOW.replacen(alloc, *old, *new, 1)?;
-        let text = format!(in alloc; "{PLAN}{flow}")?;
+        let text = changed(alloc, plan, old, new)?;
         assert_told(rt, alloc, text.as_str(), line)?;
     }
     Ok(())
 }
 
 #[test]
-fn the_first_fault_of_the_top_is_named(rt: HostRuntime) -> Result<(), Fail> {
-    assert_faults(&rt, rt.alloc(), "", "", &OF_TOP)
-}
-
-#[test]
-fn the_first_fault_after_a_good_top_is_named(rt: HostRuntime) -> Result<(), Fail> {
-    assert_faults(&rt, rt.alloc(), TOP, "", &AFTER_TOP)
-}
-
-#[test]
-fn the_first_fault_of_a_container_is_named(rt: HostRuntime) -> Result<(), Fail> {
-    assert_faults(&rt, rt.alloc(), TOP, CARRIER, &OF_CONTAINER)?;
-    assert_faults(&rt, rt.alloc(), TOP_OF_PIECES, CARRIER, &OF_PIECES)
+fn the_first_fault_is_named(rt: HostRuntime) -> Result<(), Fail> {
+    for (front, rows) in [
+        ("", OF_TOP.as_slice()),
+        (TOP, &AFTER_TOP),
+        (CARRIER, &OF_CONTAINER),
+        (CARRIER_OF_PIECES, &OF_PIECES),
+    ] {
+        assert_faults(&rt, rt.alloc(), front, rows)?;
+    }
+    Ok(())
 }
 
 #[test]
 fn the_first_fault_of_a_flow_is_named(rt: HostRuntime) -> Result<(), Fail> {
-    assert_faults_of_flow(&rt, rt.alloc(), &OF_FLOW)
+    assert_changes(&rt, rt.alloc(), SIMPLEST, &OF_FLOW)
 }
 
 // A plan of so many octets, the last of which is this one in a comment.
 fn padded(alloc: Global, count: usize, last: u8) -> Result<Vec<u8>, AllocError> {
     let mut octets = PLAN.as_bytes().to_vec(alloc)?;
-    for _ in octets.len()..count.saturating_sub(1) {
-        octets.push(b'#')?;
-    }
+    octets.resize(count.saturating_sub(1), b'#')?;
     octets.push(last)?;
     Ok(octets)
 }
@@ -323,60 +257,25 @@ fn a_plan_has_at_most_65536_octets(rt: HostRuntime) -> Result<(), Fail> {
     Ok(())
 }
 
-fn assert_carrier(rt: &impl Abort, carrier: &Carrier, row: &CarrierRow<'_>) {
-    let (method, numbers, pieces) = *row;
-    assert_eq!(rt; carrier.method, method);
-    assert_eq!(rt; [carrier.s, carrier.k, carrier.m], numbers);
-    assert_eq!(rt; carrier.pieces.as_slice(), pieces);
+// What the plan of these octets is.
+fn shown(alloc: Global, octets: &[u8]) -> Result<String, Fail> {
+    let plan = read(alloc, octets)?;
+    Ok(format!(in alloc; "{plan:?}")?)
 }
 
-fn assert_flow(rt: &impl Abort, flow: &Flow, row: &FlowRow<'_>) {
-    let (id, addresses, control, carriers, numbers) = *row;
-    assert_eq!(rt; (flow.id, flow.control), (id, control));
-    assert_eq!(rt; [flow.dst, flow.src], addresses);
-    assert_eq!(rt; flow.carriers.as_slice(), carriers);
-    assert_eq!(rt;
-        [flow.frames, flow.lmin, flow.lmax, flow.cap, flow.p, flow.q],
-        numbers
-    );
-}
-
-fn assert_lists(rt: &impl Abort, plan: &Plan, carriers: &[CarrierRow<'_>], flows: &[FlowRow<'_>]) {
-    assert_eq!(rt; plan.carriers.len(), carriers.len());
-    for (carrier, row) in plan.carriers.as_slice().iter().zip(carriers) {
-        assert_carrier(rt, carrier, row);
-    }
-    assert_eq!(rt; plan.flows.len(), flows.len());
-    for (flow, row) in plan.flows.as_slice().iter().zip(flows) {
-        assert_flow(rt, flow, row);
-    }
-}
-
-fn assert_plan(rt: &impl Abort, plan: &Plan, row: &PlanRow<'_>) {
-    let (_, option, mode, playout, carriers, flows) = *row;
-    assert_eq!(rt; (plan.option, plan.playout), (option, playout));
-    assert_eq!(rt; plan.mode, mode);
-    assert_lists(rt, plan, carriers, flows);
-}
-
-// The plan that is read from the text of this one.
-fn read_back(alloc: Global, plan: &Plan) -> Result<Plan, ReadError> {
-    let text = print(alloc, plan)?;
-    read(alloc, &text)
+// A copy of the plan of these octets, as text.
+fn printed(alloc: Global, octets: &[u8]) -> Result<Vec<u8>, Fail> {
+    let plan = read(alloc, octets)?;
+    Ok(print(alloc, &plan.copy(alloc)?)?)
 }
 
 // A plan stays the same through a copy and through text.
-fn assert_plans(rt: &impl Abort, alloc: Global, rows: &[PlanRow<'_>]) -> Result<(), Fail> {
-    for row in rows {
-        let plan = read(alloc, row.0.as_bytes())?;
-        assert_plan(rt, &plan, row);
-        let copy = plan.copy(alloc)?;
-        assert_plan(rt, &read_back(alloc, &copy)?, row);
-    }
-    Ok(())
-}
-
 #[test]
 fn plans_are_read_and_read_back(rt: HostRuntime) -> Result<(), Fail> {
-    assert_plans(&rt, rt.alloc(), &PLANS)
+    for (text, plan) in PLANS {
+        assert_eq!(rt; shown(rt.alloc(), text.as_bytes())?.as_str(), plan);
+        let again = printed(rt.alloc(), text.as_bytes())?;
+        assert_eq!(rt; shown(rt.alloc(), &again)?.as_str(), plan);
+    }
+    Ok(())
 }

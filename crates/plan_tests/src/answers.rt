@@ -1,38 +1,15 @@
 // Plans in files in memory, and what is answered of them.
-use crate::{check_plan, explain_plan, on_plan};
+use crate::plans::{CARRIER, IN_PIECES, LTE_PAIR, MAPPING, MAPPING_11_2_MHZ, SIMPLEST, changed};
 use carrier_plan::{Field, Part, PlanText, Spot};
 use link_base::{MemShelf, MemSink, NoMemory};
 use link_run_feed::Status;
+use link_run_plan::{check_plan, on_plan};
+use plan_sentences::explain_plan;
 use std::alloc::Global;
 use std::process::Abort;
 use std::test::Fail;
 
-mod words;
-
 const AMPLE: usize = 4096;
-
-/// The keys of a plan before its carriers.
-const TOP: &str = "version = 1\noption = 1\nmode = \"bytes\"\nplayout = 2\n";
-
-/// One carrier of one sample in each frame, with 8 bits of I and of Q.
-const CARRIER: &str = "[[carrier]]\nmethod = 1\ns = 1\nk = 1\nm = 8\nstart = 0\nsize = 16\n";
-
-/// The keys of a plan before its carriers, in version 2.
-const TOP_OF_PIECES: &str = "version = 2\noption = 1\nmode = \"bytes\"\nplayout = 2\n";
-
-/// The same carrier, without pieces.
-const CARRIER_IN_PIECES: &str = "[[carrier]]\nmethod = 1\ns = 1\nk = 1\nm = 8\npieces = []\n";
-
-/// One flow of that carrier, of one frame in a packet.
-const FLOW: &str =
-    "[[flow]]\nid = 7\ndst = \"020000000001\"\nsrc = \"020000000002\"\ncontrol = true\ncarriers = [0]\nframes = 1\nlmin = 0\nlmax = 2\ncap = 3\np = 4\nq = 4\n";
-
-/// Two LTE carriers of 20 MHz that fill option 3, in packets of four frames.
-const LTE_PAIR: &str =
-    "version = 1\noption = 3\nmode = \"bytes\"\nplayout = 33\n[[carrier]]\nmethod = 1\ns = 8\nk = 1\nm = 15\nstart = 0\nsize = 240\n[[carrier]]\nmethod = 1\ns = 8\nk = 1\nm = 15\nstart = 240\nsize = 240\n[[flow]]\nid = 7\ndst = \"020000000001\"\nsrc = \"020000000002\"\ncontrol = true\ncarriers = [0, 1]\nframes = 4\nlmin = 10\nlmax = 30\ncap = 6\np = 256\nq = 256\n";
-
-/// The rate, the width and the container of that carrier.
-const MAPPING: &str = "method = 1\ns = 1\nk = 1\nm = 8\nstart = 0\nsize = 16\n";
 
 /// What changes in the plan of one carrier, and the answer.
 const ONE_CARRIER: [Row<'static>; 13] = [
@@ -51,12 +28,7 @@ const ONE_CARRIER: [Row<'static>; 13] = [
         Status::No { rule: 5, item: 0 },
     ),
     (CARRIER, "", "no 2 0\n", Status::No { rule: 2, item: 0 }),
-    (
-        MAPPING,
-        "method = 1\ns = 35\nk = 12\nm = 15\nstart = 0\nsize = 88\n",
-        YES_11_2_MHZ,
-        Status::Done,
-    ),
+    (MAPPING, MAPPING_11_2_MHZ, YES_11_2_MHZ, Status::Done),
     (
         MAPPING,
         "method = 1\ns = 35\nk = 12\nm = 15\nstart = 0\nsize = 86\n",
@@ -145,7 +117,7 @@ const PAIR: [Row<'static>; 5] = [
 ];
 
 /// What stands in place of the pieces of a container of 16 bits, in version 2 of plans, and the answer.
-const IN_PIECES: [Row<'static>; 10] = [
+const PIECES: [Row<'static>; 10] = [
     ("[]", "[[0, 10], [100, 6]]", YES, Status::Done),
     (
         "[]",
@@ -208,14 +180,6 @@ const YES_11_2_MHZ: &str = "yes\ncarrier 0 delay 14\nflow 0 holds 3\n";
 /// A part of a plan's text, what stands in its place, and the answer.
 type Row<'a> = (&'a str, &'a str, &'a str, Status);
 
-fn plan_of(alloc: Global, top: &str, carriers: &str, flows: &str) -> Result<String, NoMemory> {
-    let mut text = String::from_str(alloc, top)?;
-    for part in [carriers, flows] {
-        text.push_str(part)?;
-    }
-    Ok(text)
-}
-
 fn shelf_of(alloc: Global, file: &[u8]) -> Result<MemShelf, NoMemory> {
     let mut shelf = MemShelf::new(alloc, AMPLE);
     shelf.add("a", file)?;
@@ -251,36 +215,28 @@ fn assert_answers(
     rows: &[Row<'_>],
 ) -> Result<(), Fail> {
     for (old, new, text, status) in rows {
-        let changed = plan.replacen(alloc, *old, *new, 1)?;
-        assert_answer(rt, alloc, changed.as_str().as_bytes(), text, *status)?;
+        let plan = changed(alloc, plan, old, new)?;
+        assert_answer(rt, alloc, plan.as_str().as_bytes(), text, *status)?;
     }
     Ok(())
 }
 
 #[test]
 fn a_plan_is_answered_by_its_first_failure(rt: HostRuntime) -> Result<(), Fail> {
-    let plan = plan_of(rt.alloc(), TOP, CARRIER, FLOW)?;
-    assert_answers(&rt, rt.alloc(), plan.as_str(), &ONE_CARRIER)
-}
-
-#[test]
-fn a_plan_of_two_carriers_is_answered(rt: HostRuntime) -> Result<(), Fail> {
-    assert_answers(&rt, rt.alloc(), LTE_PAIR, &PAIR)
-}
-
-#[test]
-fn a_plan_in_pieces_is_answered(rt: HostRuntime) -> Result<(), Fail> {
-    let plan = plan_of(rt.alloc(), TOP_OF_PIECES, CARRIER_IN_PIECES, FLOW)?;
-    assert_answers(&rt, rt.alloc(), plan.as_str(), &IN_PIECES)
+    for (plan, rows) in [
+        (SIMPLEST, ONE_CARRIER.as_slice()),
+        (LTE_PAIR, &PAIR),
+        (IN_PIECES, &PIECES),
+    ] {
+        assert_answers(&rt, rt.alloc(), plan, rows)?;
+    }
+    Ok(())
 }
 
 // The plan of one carrier, with a comment up to so many octets.
 fn padded(alloc: Global, count: usize) -> Result<Vec<u8>, NoMemory> {
-    let plan = plan_of(alloc, TOP, CARRIER, FLOW)?;
-    let mut octets = Vec::from_slice(alloc, plan.as_str().as_bytes())?;
-    for _ in octets.len()..count {
-        octets.push(b'#')?;
-    }
+    let mut octets = SIMPLEST.as_bytes().to_vec(alloc)?;
+    octets.resize(count, b'#')?;
     Ok(octets)
 }
 
@@ -312,8 +268,7 @@ fn carriers_of(
 
 #[test]
 fn a_call_goes_on_by_a_plan_that_holds(rt: HostRuntime) -> Result<(), Fail> {
-    let plan = plan_of(rt.alloc(), TOP, CARRIER, FLOW)?;
-    let mut shelf = shelf_of(rt.alloc(), plan.as_str().as_bytes())?;
+    let mut shelf = shelf_of(rt.alloc(), SIMPLEST.as_bytes())?;
     for (name, carriers) in [("a", Ok(1)), ("b", Err(Status::ReadFault))] {
         assert_eq!(rt; carriers_of(rt.alloc(), name, &mut shelf)?, (carriers, 0));
     }
