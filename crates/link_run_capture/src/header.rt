@@ -90,7 +90,7 @@ fn number(text: &[u8], most: u64) -> Option<u64>
 fn first_version(file: RunFile, run: &[u8]) -> Option<Header>
     ensures header { result ≡ first_version (at_most (longest_run file Version.One) (decimal_value run.now)) }
     ensures within { (width : ℕ) → IfSome result (λ header. IsWithinTable width header.announce) }
-    ensures few { IfSome result (λ header. header.run_ticks ≤ 2 ^ 40) }
+    ensures few { IfSome result (λ header. header.run_ticks ≤ longest_run file header.version) }
 {
     let version = Version::One;
     let Some(run_ticks) = number(run, file.longest_run(version)) else {
@@ -118,7 +118,7 @@ fn with_channels(
 ) -> Option<Header>
     ensures header { result ≡ with_channels width (at_most (longest_run file Version.Two) (decimal_value run.now)) (at_most 255 (decimal_value hdlc.now)) (at_most 255 (decimal_value pointer.now)) }
     ensures within { IfSome result (λ header. IsWithinTable width header.announce) }
-    ensures few { IfSome result (λ header. header.run_ticks ≤ 2 ^ 40) }
+    ensures few { IfSome result (λ header. header.run_ticks ≤ longest_run file header.version) }
 {
     let version = Version::Two;
     let Some(run_ticks) = number(run, file.longest_run(version)) else {
@@ -144,7 +144,7 @@ fn with_channels(
 fn second_version(file: RunFile, width: usize, fields: &[u8]) -> Option<Header>
     ensures header { result ≡ with_run file width (at_first_space fields.now) }
     ensures within { IfSome result (λ header. IsWithinTable width header.announce) }
-    ensures few { IfSome result (λ header. header.run_ticks ≤ 2 ^ 40) }
+    ensures few { IfSome result (λ header. header.run_ticks ≤ longest_run file header.version) }
 {
     let Some((run, channels)) = at_first_space(fields) else {
         return None;
@@ -171,7 +171,7 @@ pub fn read_header(width: usize, line: &[u8]) -> Option<Header>
 pub fn read_run_header(file: RunFile, width: usize, line: &[u8]) -> Option<Header>
     ensures header { result ≡ run_header file width line.now }
     ensures within { IfSome result (λ header. IsWithinTable width header.announce) }
-    ensures few { IfSome result (λ header. header.run_ticks ≤ 2 ^ 40) }
+    ensures few { IfSome result (λ header. header.run_ticks ≤ longest_run file header.version) }
 {
     let Some((word, fields)) = at_first_space(line) else {
         return None;
