@@ -12,10 +12,11 @@ use Rattle.hdlc_channel.specs.Bits.{number_of, octets_of}
 use Rattle.link_sender.specs.Frames.{IsFrame}
 use Rattle.link_sender.specs.Managed.{managed}
 use Rattle.link_sender.specs.Stream.{IsStream, Stream}
+use Rattle.link_sender.specs.Whole.{is_one}
+use Rattle.link_sender.proofs.CarriedOnes.{is_one-decides}
 use Rattle.plan_checker.specs.Rules.{IsGood}
 use Rattle.plan_checker.specs.WordSize.{word_size}
 use Rattle.link_run_delay.specs.Existing.{AreOctets}
-use Rattle.link_run_delay.proofs.CarriedBits.{CarriesOne-is_one, is_one, is_one-by}
 use Rattle.link_run_delay.proofs.OctetsOfBits.{octets_with}
 
 -- ---- bits as numbers
@@ -140,8 +141,8 @@ module _ (p : Plan) (h : ℕ) (σ : Stream) (good : IsGood p) (stream : IsStream
           small = found.1.small;
           control = found.1.front;
           bits = λ x lt. (
-            λ one. CarriesOne-is_one p σ n x (true_from_bit (is_one p σ n x) (sym (found.1.same x (omega arith)) ∙ one)),
-            λ carries. found.1.same x (omega arith) ∙ ap bit_by (is_one-by p σ n x good carries),
+            λ one. (is_one-decides p σ n x good).0 (true_from_bit (is_one p σ n x) (sym (found.1.same x (omega arith)) ∙ one)),
+            λ carries. found.1.same x (omega arith) ∙ ap bit_by ((is_one-decides p σ n x good).1 carries),
           );
         },
       )

@@ -6,7 +6,6 @@ pub mod SampleValues
 pub mod Entries
 pub mod Delayed
 pub mod PlainPlans
-pub mod CarriedBits
 pub mod OctetsOfBits
 pub mod OctetsOfSymbols
 pub mod FramesOfStreams

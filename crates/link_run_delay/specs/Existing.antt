@@ -1,9 +1,11 @@
--- That there are octets of each packet of a stream. This is the project's own.
+-- That there are octets of each packet of a stream, and which these are. This is the project's own.
 use Rattle.std.specs.Prelude.{◌≡◌, ◌<◌, ℕ, List, All, Contains}
 use Rattle.carrier_plan.specs.declared.plan.Flow.{Flow}
 use Rattle.carrier_plan.specs.declared.plan.Plan.{Plan}
+use Rattle.link_sender.specs.Frames.{IsFrame}
 use Rattle.link_sender.specs.Packets.{IsPacket}
 use Rattle.link_sender.specs.Stream.{Stream, IsStream}
+use Rattle.link_sender.specs.Whole.{frame_of, packet_of}
 use Rattle.plan_checker.specs.Packets.{run_packets}
 use Rattle.plan_checker.specs.Rules.{IsGood}
 
@@ -21,3 +23,11 @@ pub record HasPacket (p : Plan) (σ : Stream) (f : Flow) (i : ℕ) : Type 0 wher
 abbrev pub PacketsExist : Type 0
 PacketsExist =
     (p : Plan) (h : ℕ) (σ : Stream) (f : Flow) (i : ℕ) → IsGood p → IsStream p h σ → Contains p.flows f → i < run_packets p f h → HasPacket p σ f i
+
+-- The frames and packets of a stream that are written out as lists are its frames and packets.
+abbrev pub FramesAreThose : Type 0
+FramesAreThose = (p : Plan) (h : ℕ) (σ : Stream) (n : ℕ) → IsGood p → IsStream p h σ → IsFrame p σ n (frame_of p σ n)
+
+abbrev pub PacketsAreThose : Type 0
+PacketsAreThose =
+    (p : Plan) (h : ℕ) (σ : Stream) (f : Flow) (i : ℕ) → IsGood p → IsStream p h σ → Contains p.flows f → i < run_packets p f h → IsPacket p σ f i (packet_of p σ f i)

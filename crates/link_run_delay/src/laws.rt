@@ -2,7 +2,7 @@
 ghost use Rattle.link_run_delay.specs.ChannelsArePrefixes.{ChannelsArePrefixes};
 ghost use Rattle.link_run_delay.specs.ControlIsSent.{ControlIsSent};
 ghost use Rattle.link_run_delay.specs.Delay.{ReadPlansArePlain, SamplesAreDelayed};
-ghost use Rattle.link_run_delay.specs.Existing.{PacketsExist};
+ghost use Rattle.link_run_delay.specs.Existing.{FramesAreThose, PacketsAreThose, PacketsExist};
 ghost use Rattle.link_run_delay.specs.ManagementArrives.{ManagementArrives};
 ghost use Rattle.link_run_delay.specs.PrefixesAreRead.{PrefixesAreRead};
 
@@ -54,4 +54,19 @@ pub fn management_arrives()
     control_is_sent();
     channels_are_prefixes();
     prefixes_are_read();
+}
+
+/// The frames that are written out as lists are those of the stream, whatever the stream, of every plan that meets the rules.
+pub fn frames_are_those()
+    ensures { FramesAreThose }
+{
+    link_sender::frames_are_determined();
+}
+
+/// The packets that are written out as lists are those of the stream, whatever the stream, of every plan that meets the rules.
+pub fn packets_are_those()
+    ensures { PacketsAreThose }
+{
+    packets_exist();
+    link_sender::packets_are_determined();
 }

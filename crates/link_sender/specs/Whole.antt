@@ -1,5 +1,5 @@
--- The basic frames and packets of a stream as octet lists: where ‹IsFrame› and ‹IsPacket› say which octets they are, these are
--- they (CPRI V7.0, sections 4.2.7.1 to 4.2.7.4). How frames are put into payloads is this project's own.
+-- The octets of the basic frames and packets of a stream, written out: the only ones that `IsFrame` and `IsPacket` allow (CPRI
+-- V7.0, sections 4.2.7.1 to 4.2.7.4). How frames are put into payloads is this project's own.
 use Rattle.std.specs.Prelude.{ℕ, ◌+◌, ◌-◌, ◌*◌, ◌==◌, ◌&&◌, Bool, false, List, ◌++◌, length, map, take, replicate, flat_map, Option, Some, None, slice_get}
 use Rattle.std.specs.Int.{div_ceil}
 use Rattle.std.specs.List.{list_any, range_with_len}
