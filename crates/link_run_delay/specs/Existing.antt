@@ -1,5 +1,5 @@
 -- That there are octets of each packet of a stream, and which these are. This is the project's own.
-use Rattle.std.specs.Prelude.{◌≡◌, ◌<◌, ℕ, List, All, Contains}
+use Rattle.std.specs.Prelude.{◌<◌, ℕ, List, All, Contains}
 use Rattle.carrier_plan.specs.declared.plan.Flow.{Flow}
 use Rattle.carrier_plan.specs.declared.plan.Plan.{Plan}
 use Rattle.link_sender.specs.Frames.{IsFrame}
