@@ -17,7 +17,7 @@ use Rattle.link_sender.specs.Packets.{CarriesFrame}
 use Rattle.link_sender.specs.Senders.{StandsForFrames}
 use Rattle.link_sender.specs.Stream.{Stream}
 
-characters_more : (n : ℕ) (frames : List (List ℕ)) (frame : List ℕ) → characters_from n (frames ++ frame ∷ []) ≡ characters_from n frames ++ frame_characters (n + length frames) frame
+pub characters_more : (n : ℕ) (frames : List (List ℕ)) (frame : List ℕ) → characters_from n (frames ++ frame ∷ []) ≡ characters_from n frames ++ frame_characters (n + length frames) frame
 characters_more n [] frame = let e : n ≡ n + 0 = omega arith in append-nil (frame_characters n frame) ∙ ap (λ k. frame_characters k frame) e
 characters_more n (first ∷ frames) frame =
     let e : n + 1 + length frames ≡ n + suc (length frames) = omega arith in

@@ -26,6 +26,7 @@ pub mod Sizes
 pub mod Slots
 pub mod TickSteps
 pub mod WholeFrames
+pub mod WholeLine
 pub mod WholePackets
 pub mod WholeParts
 pub mod WholeSettled
