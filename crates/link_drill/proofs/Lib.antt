@@ -1,0 +1,10 @@
+pub mod Ranges
+pub mod GoodPlan
+pub mod PlanFacts
+pub mod DrawSteps
+pub mod FateSteps
+pub mod SendSteps
+pub mod PlaySteps
+pub mod EntrySteps
+pub mod SummarySteps
+pub mod RunFacts
