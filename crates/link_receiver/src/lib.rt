@@ -18,6 +18,3 @@ pub use entry::{Counts, Entry, LeavingSamples};
 pub use laws::{candidates_are_unique, entries_are_settled, taken_is_settled};
 pub use session::Session;
 pub use word_sizes::AnySession;
-
-#[cfg(test)]
-mod tests;

@@ -1,5 +1,5 @@
 use Rattle.std.proofs.Common.{◌≡◌}
-use Rattle.link_receiver.proofs.tests.played.Given as goal
+use Rattle.link_receiver_tests.proofs.tests.played.Given as goal
 
 -- the session is of this run, at this tick
 abbrev pub invariant-loop : goal.invariant-loop

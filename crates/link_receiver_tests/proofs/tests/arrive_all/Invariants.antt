@@ -1,5 +1,5 @@
 use Rattle.std.proofs.Common.{◌≡◌}
-use Rattle.link_receiver.proofs.tests.arrive_all.Given as goal
+use Rattle.link_receiver_tests.proofs.tests.arrive_all.Given as goal
 
 -- the tick stays
 abbrev pub invariant-loop-tick : goal.invariant-loop-tick

@@ -1,9 +1,9 @@
 //! Captures of one flow, played, and what is answered to each kind of octets.
 ghost use Rattle.std.specs.Prelude.{◌≡◌, ◌<◌, ◌≤◌, ◌^◌, length};
 
-use crate::{AnySession, Arrive, Counts, Entry, Foreign};
 use carrier_plan::read;
 use link_base::NoMemory;
+use link_receiver::{AnySession, Arrive, Counts, Entry, Foreign};
 use plan_checker::{Checked, check};
 use roe_header::NotRoe;
 use sample_bits::RawIq;
