@@ -256,12 +256,51 @@ fn a_run_of_the_greatest_length_is_begun(rt: HostRuntime) -> Result<(), Fail> {
 }
 
 // Packet 0 with two other octets from a place on.
-fn altered(place: usize, octets: [u8; 2]) -> Octets
-    requires { place ≤ 58 }
-{
+fn altered(place: usize, octets: [u8; 2]) -> Octets {
     let mut packet = packet_of(0, NO_SAMPLE);
+    let place = place.min(58);
     packet[place..place + 2].copy_from_slice(&octets);
     packet
+}
+
+// The place of the two octets, what they are, and what is answered.
+const ALTERED: [(usize, [u8; 2], Arrive); 10] = [
+    (
+        12,
+        [0x08, 0x00],
+        Arrive::Foreign(Foreign::NotRoe(NotRoe::EtherType { got: 0x0800 })),
+    ),
+    (
+        16,
+        [0x00, 0x27],
+        Arrive::Foreign(Foreign::NotRoe(NotRoe::Length {
+            said: 39,
+            there: 38,
+        })),
+    ),
+    (14, [0x03, 0x08], Arrive::Foreign(Foreign::Sub { got: 3 })),
+    (14, [0x02, 0x08], Arrive::Foreign(Foreign::Flow { id: 8 })),
+    (
+        16,
+        [0x00, 0x11],
+        Arrive::Size {
+            flow: 0,
+            length: 17,
+        },
+    ),
+    (16, [0x00, 0x00], Arrive::Size { flow: 0, length: 0 }),
+    // The packets of the run are 0 and 1, and packet 1 may not come at tick 0.
+    (20, [0x00, 0x01], Arrive::Outside { flow: 0, seq: 1 }),
+    (20, [0x00, 0x02], Arrive::Outside { flow: 0, seq: 2 }),
+    // Another address, and another octet behind the payload.
+    (4, [0x00, 0x09], Arrive::Taken { flow: 0, number: 0 }),
+    (58, [0x00, 0x01], Arrive::Repeat { flow: 0, number: 0 }),
+];
+
+fn assert_answers(rt: &impl Abort, session: &mut AnySession, rows: &[(usize, [u8; 2], Arrive)]) {
+    for &(place, octets, answer) in rows {
+        assert_eq!(rt; session.arrive(&altered(place, octets)), answer);
+    }
 }
 
 #[test]
@@ -269,58 +308,6 @@ fn the_first_reason_why_octets_are_not_taken(rt: HostRuntime) -> Result<(), Fail
     let plan = checked(&rt, rt.alloc(), SAMPLE_A_FRAME);
     let mut session = AnySession::begin(rt.alloc(), &plan, 1)?;
     assert_eq!(rt; session.entries().len(), 0);
-    let ether_type = NotRoe::EtherType { got: 0x0800 };
-    let (said, there) = (39, 38);
-    let length = NotRoe::Length { said, there };
-    let rows = [
-        (
-            altered(12, [0x08, 0x00]),
-            Arrive::Foreign(Foreign::NotRoe(ether_type)),
-        ),
-        (
-            altered(16, [0x00, 0x27]),
-            Arrive::Foreign(Foreign::NotRoe(length)),
-        ),
-        (
-            altered(14, [0x03, 0x08]),
-            Arrive::Foreign(Foreign::Sub { got: 3 }),
-        ),
-        (
-            altered(14, [0x02, 0x08]),
-            Arrive::Foreign(Foreign::Flow { id: 8 }),
-        ),
-        (
-            altered(16, [0x00, 0x11]),
-            Arrive::Size {
-                flow: 0,
-                length: 17,
-            },
-        ),
-        (
-            altered(16, [0x00, 0x00]),
-            Arrive::Size { flow: 0, length: 0 },
-        ),
-        // The packets of the run are 0 and 1, and packet 1 may not come at tick 0.
-        (
-            altered(20, [0x00, 0x01]),
-            Arrive::Outside { flow: 0, seq: 1 },
-        ),
-        (
-            altered(20, [0x00, 0x02]),
-            Arrive::Outside { flow: 0, seq: 2 },
-        ),
-        // Another address, and another octet behind the payload.
-        (
-            altered(4, [0x00, 0x09]),
-            Arrive::Taken { flow: 0, number: 0 },
-        ),
-        (
-            altered(58, [0x00, 0x01]),
-            Arrive::Repeat { flow: 0, number: 0 },
-        ),
-    ];
-    for (octets, answer) in rows {
-        assert_eq!(rt; session.arrive(&octets), answer);
-    }
+    assert_answers(&rt, &mut session, &ALTERED);
     Ok(())
 }
