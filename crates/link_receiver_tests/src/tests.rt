@@ -297,9 +297,13 @@ const ALTERED: [(usize, [u8; 2], Arrive); 10] = [
     (58, [0x00, 0x01], Arrive::Repeat { flow: 0, number: 0 }),
 ];
 
+fn assert_answer(rt: &impl Abort, session: &mut AnySession, octets: &Octets, answer: Arrive) {
+    assert_eq!(rt; session.arrive(octets), answer);
+}
+
 fn assert_answers(rt: &impl Abort, session: &mut AnySession, rows: &[(usize, [u8; 2], Arrive)]) {
     for &(place, octets, answer) in rows {
-        assert_eq!(rt; session.arrive(&altered(place, octets)), answer);
+        assert_answer(rt, session, &altered(place, octets), answer);
     }
 }
 
