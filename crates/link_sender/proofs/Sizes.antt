@@ -1,5 +1,5 @@
 -- A sender, seen as one of any word size.
-use Rattle.std.proofs.Common.{◌≡◌, ℕ, ◌+◌, ◌*◌, List, Option, MatchOption, Some, replicate, slice_get, sym, subst, ◌∙◌}
+use Rattle.std.proofs.Common.{◌≡◌, ℕ, ◌+◌, ◌*◌, List, Option, MatchOption, Some, length, replicate, slice_get, ap, sym, subst, ◌∙◌}
 use Rattle.carrier_plan.specs.declared.plan.Flow.{Flow}
 use Rattle.plan_checker.specs.WordSize.{word_size}
 use Rattle.link_sender.specs.Frames.{IsFrame}
@@ -15,6 +15,10 @@ module _ (s now : SenderView) (frame octets : List ℕ) (same : s ≡ now) (is :
 
   pub last_frame : ((σ : Stream) (n : ℕ) → StandsFor s σ → n + 1 ≡ s.tick → IsFrame s.plan σ n frame) → (σ : Stream) (n : ℕ) → StandsFor now σ → n + 1 ≡ now.tick → IsFrame now.plan σ n octets
   last_frame last σ n stands next = subst (IsFrame now.plan σ n) (sym is) (subst (λ (v : SenderView). StandsFor v σ → n + 1 ≡ v.tick → IsFrame v.plan σ n frame) same (last σ n) stands next)
+
+-- how many they are, in words of y octets
+pub size_same : (y : ℕ) (s now : SenderView) (octets : List ℕ) → s ≡ now → y ≡ word_size s.plan.option → length octets ≡ 16 * y → length octets ≡ 16 * word_size now.plan.option
+size_same y s now octets same words size = size ∙ ap (λ n. 16 * n) (words ∙ ap (λ (v : SenderView). word_size v.plan.option) same)
 
 -- what a call says of the packet of flow f that is ready
 abbrev IsReady : {X : Type 0} → Option X → (X → List ℕ) → ℕ → SenderView → Type 0

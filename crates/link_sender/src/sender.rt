@@ -1,5 +1,5 @@
 // Sends a run: samples are handed in at each tick, and each makes a basic frame.
-ghost use Rattle.std.specs.Prelude.{◌≡◌, ◌↔◌, ℕ, ◌+◌, ◌-◌, ◌*◌, ◌<◌, ◌≤◌, ◌^◌, ◌++◌, ◌∷◌, All, IfErr, IfOk, IsErr, MatchOption, MatchResult, OnErr, OnOk, map, Some, length, replicate, slice_get, slice_index, slice_set};
+ghost use Rattle.std.specs.Prelude.{◌≡◌, ◌↔◌, ℕ, ◌+◌, ◌-◌, ◌*◌, ◌<◌, ◌≤◌, ◌^◌, ◌++◌, ◌∷◌, All, IfErr, IfOk, IfSome, IsErr, MatchOption, MatchResult, OnErr, OnOk, map, Some, length, replicate, slice_get, slice_index, slice_set};
 ghost use Rattle.carrier_plan.specs.declared.plan.Carrier.{Carrier as OneCarrier};
 ghost use Rattle.carrier_plan.specs.declared.plan.Flow.{Flow as OneFlow};
 ghost use Rattle.control_words.specs.Announcement.{IsWithinTable};
@@ -240,6 +240,7 @@ impl<const Y: usize> Sender<Y> {
     pub fn frame(&self) -> &Frame<Y>
         ensures none { (σ : Stream) → StandsFor self.now σ → self.now.tick ≡ 0 → result.now ≡ replicate (16 * word_size self.now.plan.option) 0 }
         ensures last { (σ : Stream) (n : ℕ) → StandsFor self.now σ → n + 1 ≡ self.now.tick → IsFrame self.now.plan σ n result.now }
+        ensures words { Y ≡ word_size self.now.plan.option }
     {
         &self.frame
     }
@@ -247,10 +248,11 @@ impl<const Y: usize> Sender<Y> {
     /// The packet of flow `f` whose window opens at the tick of the frame that was made last, if there is one in the run.
     pub fn ready(&self, f: usize) -> Option<&[u8]>
         requires { f < length self.now.plan.flows }
-        ensures { (flow : OneFlow) → slice_get self.now.plan.flows f ≡ Some flow
+        ensures packet { (flow : OneFlow) → slice_get self.now.plan.flows f ≡ Some flow
             → MatchOption result ((i : ℕ) → ¬ OpensBefore self.now.plan self.now.frames flow self.now.tick i)
             (λ packet. (i : ℕ) × OpensBefore self.now.plan self.now.frames flow self.now.tick i
             × ((σ : Stream) → StandsFor self.now σ → IsPacket self.now.plan σ flow i packet.now)) }
+        ensures few { IfSome result (λ packet. length packet.now ≤ 1514) }
     {
         let Some(number) = opened_before(self.checked.plan().flows.at(f), self.next) else {
             return None;

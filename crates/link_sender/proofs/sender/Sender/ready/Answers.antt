@@ -1,4 +1,4 @@
-use Rattle.std.proofs.Common.{◌≡◌, ℕ, ◌+◌, slice_get, Option, Some, None, refl, sym, ap, ◌∙◌, subst, arith}
+use Rattle.std.proofs.Common.{◌≡◌, ℕ, ◌+◌, ◌≤◌, length, List, slice_get, Option, Some, None, refl, sym, ap, ◌∙◌, subst, arith}
 use Rattle.std.specs.Option.{MatchOption}
 use Rattle.std.proofs.lemmas.Option.{get_or_from_slice_get}
 use Rattle.carrier_plan.specs.declared.plan.Flow.{Flow}
@@ -8,7 +8,7 @@ use Rattle.link_sender.specs.Packets.{IsPacket}
 use Rattle.link_sender.specs.Senders.{OpensBefore, SenderView, StandsFor}
 use Rattle.link_sender.specs.Stream.{Stream}
 use Rattle.link_sender.proofs.GoodFlows.{flow_of, good_flow}
-use Rattle.link_sender.proofs.ReadySteps.{no_other, one_flow, packet_ready, ring_of}
+use Rattle.link_sender.proofs.ReadySteps.{no_other, one_flow, packet_few, packet_ready, ring_of}
 use Rattle.link_sender.proofs.sender.Sender.ready.Goals as goal
 
 pub opened_before-requires : goal.opened_before-requires
@@ -74,8 +74,8 @@ packet-requires-clause-room g c =
     let read = flow_of s.plan c.plan.result.now c.args.f f c.plan.ensures.same c.at.ensures in
     (ring_of s is c.args.f f read c.in-Some.number c.in-Some.ensures c.index.result.now (sym c.index.ensures)).whole
 
-pub returns-then-number-packets : goal.returns-then-number-packets
-returns-then-number-packets g c =
+pub returns-then-number-packets-clause-packet : goal.returns-then-number-packets-clause-packet
+returns-then-number-packets-clause-packet g c =
     let s : SenderView = record {
       plan = c.self.inside.checked;
       frames = c.self.inside.frames;
@@ -107,8 +107,29 @@ returns-then-number-packets g c =
           (subst (IsPacket s.plan σ f number) (sym slot) (packet_ready s is c.args.f f read number c.in-Some.ensures c.index.result.now (sym c.index.ensures) σ stands)),
     ))
 
-pub returns-else-number-packets : goal.returns-else-number-packets
-returns-else-number-packets g c =
+pub returns-then-number-packets-clause-few : goal.returns-then-number-packets-clause-few
+returns-then-number-packets-clause-few g c =
+    let s : SenderView = record {
+      plan = c.self.inside.checked;
+      frames = c.self.inside.frames;
+      announcement = c.self.inside.announce;
+      tick = c.self.inside.next;
+      handed = c.self.inside.handed.items;
+      carriers = c.self.inside.carriers.items;
+      slow = c.self.inside.channels.slow;
+      fast = c.self.inside.channels.fast;
+      frame = c.self.inside.frame;
+      octets = c.self.inside.octets.items;
+      rd = c.self.inside.rd;
+      rings = c.self.inside.rings.items;
+    } in
+    let is = c.self.invariant.0 in
+    let f = c.at.result.now in
+    let read = flow_of s.plan c.plan.result.now c.args.f f c.plan.ensures.same c.at.ensures in
+    subst (λ (octets : List ℕ). length octets ≤ 1514) (sym c.packet.ensures) (packet_few s is c.args.f f read c.in-Some.number c.in-Some.ensures c.index.result.now (sym c.index.ensures))
+
+pub returns-else-number-packets-clause-packet : goal.returns-else-number-packets-clause-packet
+returns-else-number-packets-clause-packet g c =
     let s : SenderView = record {
       plan = c.self.inside.checked;
       frames = c.self.inside.frames;
@@ -138,8 +159,8 @@ not_found : (r : Option ℕ) (P : Type 0) (Q : ℕ → Type 0) → MatchOption r
 not_found None P Q holds none = holds
 not_found (Some x) P Q holds none = absurd (none x refl)
 
-pub returns-in_default : goal.returns-in_default
-returns-in_default g c =
+pub returns-in_default-clause-packet : goal.returns-in_default-clause-packet
+returns-in_default-clause-packet g c =
     let s : SenderView = record {
       plan = c.self.inside.checked;
       frames = c.self.inside.frames;

@@ -1,6 +1,6 @@
 use Rattle.std.proofs.Common.{sym, ap, ◌∙◌}
 use Rattle.link_sender.specs.WordSizes.{sender_in}
-use Rattle.link_sender.proofs.Sizes.{last_frame, no_frame}
+use Rattle.link_sender.proofs.Sizes.{last_frame, no_frame, size_same}
 use Rattle.link_sender.proofs.word_sizes.AnySender.frame.Goals as goal
 
 pub returns-in-One-clause-none : goal.returns-in-One-clause-none
@@ -58,3 +58,24 @@ returns-in-Sixteen-clause-none c =
 pub returns-in-Sixteen-clause-last : goal.returns-in-Sixteen-clause-last
 returns-in-Sixteen-clause-last c =
     last_frame c.in-Sixteen.sender c.args.self.now c.frame-in-Sixteen.result.now c.octets-in-Sixteen.result.now (sym (ap sender_in c.in-Sixteen.is) ∙ c.self.view_is) c.octets-in-Sixteen.ensures.value c.frame-in-Sixteen.ensures.last
+
+pub returns-in-One-clause-size : goal.returns-in-One-clause-size
+returns-in-One-clause-size c = size_same 1 c.in-One.sender c.args.self.now c.octets.result.now (sym (ap sender_in c.in-One.is) ∙ c.self.view_is) c.frame.ensures.words c.octets.ensures.length
+
+pub returns-in-Two-clause-size : goal.returns-in-Two-clause-size
+returns-in-Two-clause-size c = size_same 2 c.in-Two.sender c.args.self.now c.octets-in-Two.result.now (sym (ap sender_in c.in-Two.is) ∙ c.self.view_is) c.frame-in-Two.ensures.words c.octets-in-Two.ensures.length
+
+pub returns-in-Four-clause-size : goal.returns-in-Four-clause-size
+returns-in-Four-clause-size c = size_same 4 c.in-Four.sender c.args.self.now c.octets-in-Four.result.now (sym (ap sender_in c.in-Four.is) ∙ c.self.view_is) c.frame-in-Four.ensures.words c.octets-in-Four.ensures.length
+
+pub returns-in-Five-clause-size : goal.returns-in-Five-clause-size
+returns-in-Five-clause-size c = size_same 5 c.in-Five.sender c.args.self.now c.octets-in-Five.result.now (sym (ap sender_in c.in-Five.is) ∙ c.self.view_is) c.frame-in-Five.ensures.words c.octets-in-Five.ensures.length
+
+pub returns-in-Eight-clause-size : goal.returns-in-Eight-clause-size
+returns-in-Eight-clause-size c = size_same 8 c.in-Eight.sender c.args.self.now c.octets-in-Eight.result.now (sym (ap sender_in c.in-Eight.is) ∙ c.self.view_is) c.frame-in-Eight.ensures.words c.octets-in-Eight.ensures.length
+
+pub returns-in-Ten-clause-size : goal.returns-in-Ten-clause-size
+returns-in-Ten-clause-size c = size_same 10 c.in-Ten.sender c.args.self.now c.octets-in-Ten.result.now (sym (ap sender_in c.in-Ten.is) ∙ c.self.view_is) c.frame-in-Ten.ensures.words c.octets-in-Ten.ensures.length
+
+pub returns-in-Sixteen-clause-size : goal.returns-in-Sixteen-clause-size
+returns-in-Sixteen-clause-size c = size_same 16 c.in-Sixteen.sender c.args.self.now c.octets-in-Sixteen.result.now (sym (ap sender_in c.in-Sixteen.is) ∙ c.self.view_is) c.frame-in-Sixteen.ensures.words c.octets-in-Sixteen.ensures.length
