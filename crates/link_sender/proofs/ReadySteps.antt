@@ -21,7 +21,7 @@ pub one_flow : (p : Plan) (i : ℕ) (x y : Flow) → slice_get p.flows i ≡ Som
 one_flow p i x y first second = let same : Some x ≡ Some y = sym first ∙ second in cc
 
 -- only one packet's window opens at a tick
-same_number : (frames i j : ℕ) → 1 ≤ frames → (i + 1) * frames ≡ (j + 1) * frames → i ≡ j
+pub same_number : (frames i j : ℕ) → 1 ≤ frames → (i + 1) * frames ≡ (j + 1) * frames → i ≡ j
 same_number frames i j some same =
     elim (cases_lt i j) [
       | inl less ↦ absurd (let product = mul-le (i + 2) frames (j + 1) frames (omega arith) (omega arith) in omega (arith, same, product))
