@@ -54,7 +54,7 @@ module _ (p : Plan) (σ τ : Stream) (good : IsGood p) where
   pub frame_of_settled : (n t : ℕ) → n ≤ t → AgreesBefore p t σ τ → frame_of p τ n ≡ frame_of p σ n
   frame_of_settled n t le agrees = frame_settled n (agrees_earlier p t n σ τ good le agrees)
 
-  disparity_settled : (n t : ℕ) → n ≤ t → AgreesBefore p t σ τ → disparity_before p τ n ≡ disparity_before p σ n
+  pub disparity_settled : (n t : ℕ) → n ≤ t → AgreesBefore p t σ τ → disparity_before p τ n ≡ disparity_before p σ n
   disparity_settled n t le agrees =
       ap (λ frames. disparity_after_all Minus (characters_from 0 frames)) (map-same (frame_of p τ) (frame_of p σ) 0 n (λ i lt. frame_of_settled i t (omega arith) agrees))
 
