@@ -1,9 +1,9 @@
 // What people are told of a plan that is refused.
 use crate::plans::{CARRIER, FLOW, IN_PIECES, SIMPLEST, TWO_FLOWS, TWO_IN_PIECES, changed};
-use carrier_plan::{ReadError, read};
+use carrier_plan::{Plan, ReadError, read};
 use plan_checker::check;
 use plan_sentences::{fault_in_words, rule_in_words};
-use std::alloc::Global;
+use std::alloc::{AllocError, Global};
 use std::process::Abort;
 use std::test::Fail;
 
@@ -14,14 +14,18 @@ const LARGE: &str =
 /// A part of a plan's text, what stands in its place, and the sentence.
 type Row<'a> = (&'a str, &'a str, &'a str);
 
-fn sentence_on(alloc: Global, text: &str) -> Result<String, Fail> {
+fn sentence_on(alloc: Global, text: &str) -> Result<String, AllocError> {
     match read(alloc, text.as_bytes()) {
-        Ok(plan) => match check(plan) {
-            Ok(_) => Ok(String::from_str(alloc, "every rule holds")?),
-            Err(refused) => Ok(rule_in_words(alloc, &refused)?),
-        },
-        Err(ReadError::Text(fault)) => Ok(fault_in_words(alloc, text.as_bytes(), fault)?),
-        Err(ReadError::NoMemory) => Ok(String::from_str(alloc, "out of memory")?),
+        Ok(plan) => sentence_of(alloc, plan),
+        Err(ReadError::Text(fault)) => fault_in_words(alloc, text.as_bytes(), fault),
+        Err(ReadError::NoMemory) => String::from_str(alloc, "out of memory"),
+    }
+}
+
+fn sentence_of(alloc: Global, plan: Plan) -> Result<String, AllocError> {
+    match check(plan) {
+        Ok(_) => String::from_str(alloc, "every rule holds"),
+        Err(refused) => rule_in_words(alloc, &refused),
     }
 }
 
