@@ -50,11 +50,7 @@ pub trait Feed: Drop {
 
     /// Reads the header without its line feed. It gives nothing where the line is no header. All memory that the feed needs is
     /// taken here.
-    fn open(
-        given: &Self::Given,
-        alloc: Global,
-        line: &[u8],
-    ) -> Result<Option<Self>, NoMemory>
+    fn open(given: &Self::Given, alloc: Global, line: &[u8]) -> Result<Option<Self>, NoMemory>
         requires can { can_open given.now }
         requires short { length line.now ≤ 4096 }
         ensures opens { IfOk result (IsOpened opens (header given.now line.now)) }
