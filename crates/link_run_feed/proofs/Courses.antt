@@ -14,11 +14,11 @@ use Rattle.link_run_feed.specs.declared.status.Status.{Status}
 use Rattle.link_run_feed.specs.declared.status.Status.TheVariants.{FeedBad, ReadFault, WriteFault, NoMemory}
 use Rattle.link_run_feed.specs.Answer.{Answer, is_answer}
 use Rattle.link_run_feed.specs.FaultCounts.{FaultCounts, CountsReads}
-use Rattle.link_run_feed.specs.Course.{Course, reached, on_feed, after_whole, answer_on_file, feed_names}
+use Rattle.link_run_feed.specs.Course.{Course, reached, says, on_feed, after_whole, answer_on_file, feed_names}
 use Rattle.link_run_feed.specs.Feed.{FeedForm, Read, At, begun, answer_on, read_on, feed_answer, settled, is_front}
 use Rattle.link_run_feed.specs.FeedCalls.{Concludes, IsStopped, WantsMemory}
 use Rattle.link_run_feed.specs.Given.{IsGiven}
-use Rattle.link_run_feed.specs.Promises.{Promises, IsComplete, Told, StandsAt, LeavesSettled, LeavesNothing, LeavesBadLine, IsReached, IsTakenFeed}
+use Rattle.link_run_feed.specs.Promises.{Promises, IsComplete, Told, StandsAt, LeavesSettled, LeavesNothing, LeavesBadLine, IsReached, IsSelected, IsTakenFeed}
 use Rattle.link_run_feed.specs.Reasons.{bad_line}
 use Rattle.link_run_feed.proofs.Counting.{counted_ok, counted_err, reads_stay, reads_failed, reads_then, files_stay}
 use Rattle.std.proofs.lemmas.Bool.{le-leb}
@@ -181,7 +181,7 @@ wanted form name old mid new sink sink' same opens wants = record {
   of_feed = λ told other taken at not_whole.
       let want = wants told in
       omega (arith, ap length (taken_of old.held name other mid.left want.taken taken new.left (opens told).left at.1 at.2 want.all), want.few);
-  selected = λ told other chosen. subst (Contains (name ∷ [])) (same_Some name other (sym ((wants told).chosen ∙ (opens told).chosen) ∙ chosen)) (in_one name);
+  selected = λ told other chosen. inl (subst (Contains (name ∷ [])) (same_Some name other (sym ((wants told).chosen ∙ (opens told).chosen) ∙ chosen)) (in_one name));
 }
 
 -- the feed was selected and read
@@ -294,7 +294,7 @@ module _ (reads_feed : Bool) (name : List ℕ) (rest : List ℕ → Files → Co
         memory = λ is. record {
           written = appends_none sink;
           of_feed = λ told other octets at not_whole. absurd (not_whole (subst (Contains course.whole) (same_Some name other (sym (chosen told) ∙ at.0)) (first_in name after.whole)));
-          selected = λ told other is. subst (Contains (reached course)) (same_Some name other (sym (chosen told) ∙ is)) (first_in name (reached after));
+          selected = λ told other is. inl (subst (Contains (reached course)) (same_Some name other (sym (chosen told) ∙ is)) (first_in name (reached after)));
         };
       }
 
@@ -329,6 +329,24 @@ answered reads_feed course old new sink sink' answer result files same answers n
       refused = λ line reason no. absurd (let two = sym no ∙ failed in cc);
       memory = λ no. absurd (let two = sym no ∙ failed in cc);
     }
+
+-- Memory was wanting in a call that comes to no file.
+pub wanted_alone : (status : Status) (text : List ℕ) (shelf : Shown) (sink : Taken) → Promises false (says status text) shelf shelf sink sink NoMemory
+wanted_alone status text shelf sink = record {
+  files = record { tells = refl; held = λ told. refl };
+  reads = reads_stay false NoMemory shelf.faults shelf.faults (λ h. cc) refl;
+  writes = counted_ok _ sink.faults sink.faults (λ h. cc) refl;
+  answers = λ no told. absurd (cc);
+  prefix = λ no. absurd (cc);
+  reached = λ no. absurd (cc);
+  settled = λ no. absurd (cc);
+  refused = λ line reason no. absurd (cc);
+  memory = λ is. record {
+    written = appends_none sink;
+    of_feed = λ told name taken at. absurd (let none = at.1 in cc);
+    selected = λ told name is. inr (refl, is);
+  };
+}
 
 -- A file was read whole, and the call went on.
 module _ (reads_feed : Bool) (name : List ℕ) (rest rest' : Course) (old mid new : Shown) (sink sink' : Taken) (status : Status)
@@ -383,8 +401,12 @@ module _ (reads_feed : Bool) (name : List ℕ) (rest rest' : Course) (old mid ne
     written = leaves.written;
   }
 
-  selected_later : ((other : List ℕ) → new.chosen ≡ Some other → Contains (reached rest) other) → (other : List ℕ) → new.chosen ≡ Some other → Contains (name ∷ reached rest) other
-  selected_later reaches other is = in_rest name other (reached rest) (reaches other is)
+  selected_later : IsTrue old.tells → ((other : List ℕ) → new.chosen ≡ Some other → IsSelected rest mid other)
+      → (other : List ℕ) → new.chosen ≡ Some other → IsSelected (after_whole name rest) old other
+  selected_later told selects other is = elim (selects other is) [
+    | inl there ↦ inl (in_rest name other (reached rest) there)
+    | inr before ↦ inl (subst (Contains (name ∷ reached rest)) (same_Some name other (sym (chosen told) ∙ before.1)) (first_in name (reached rest)))
+  ]
 
   pub went_on : Promises reads_feed (after_whole name rest) old new sink sink' status
   went_on = record {
@@ -401,7 +423,7 @@ module _ (reads_feed : Bool) (name : List ℕ) (rest rest' : Course) (old mid ne
       of_feed = λ told other taken at not_whole.
           (subst (λ c. LeavesNothing c mid new sink sink') (same told) (after.memory is)).of_feed (later told) other taken (at.0, at.1, held_later told other (taken ++ new.left) at.2)
           (λ h. not_whole (in_rest name other rest.whole h));
-      selected = λ told. selected_later ((subst (λ c. LeavesNothing c mid new sink sink') (same told) (after.memory is)).selected (later told));
+      selected = λ told. selected_later told ((subst (λ c. LeavesNothing c mid new sink sink') (same told) (after.memory is)).selected (later told));
     };
   }
 

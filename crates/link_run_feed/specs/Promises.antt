@@ -46,12 +46,16 @@ pub record LeavesSettled (course : Course) (old new : Shown) (before after : Tak
   pub good : (name taken : List ℕ) → IsTakenFeed course old new name taken → ¬ Contains course.whole name → IsTrue (course.is_front taken)
   pub nothing : ((name : List ℕ) → new.chosen ≡ Some name → course.feed ≢ Some name) → text ≡ []
 
+-- The call comes to the file of this name. Where it comes to none, the file was selected before.
+abbrev pub IsSelected : Course → Shown → List ℕ → Type 0
+IsSelected course old name = Contains (reached course) name ⊎ ((reached course ≡ []) × (old.chosen ≡ Some name))
+
 -- What want of memory leaves: no text, and of the feed at most 8,192 octets taken.
 pub record LeavesNothing (course : Course) (old new : Shown) (before after : Taken) : Type 0 where
   pub written : Appends [] before after
   pub of_feed : IsTrue old.tells → (name taken : List ℕ) → IsTakenFeed course old new name taken → ¬ Contains course.whole name → length taken ≤ 8192
   -- no file is selected, or one that the call comes to
-  pub selected : IsTrue old.tells → (name : List ℕ) → new.chosen ≡ Some name → Contains (reached course) name
+  pub selected : IsTrue old.tells → (name : List ℕ) → new.chosen ≡ Some name → IsSelected course old name
 
 -- What a refused feed leaves: the text that its good lines settle, and then the line of the first bad one.
 pub record LeavesBadLine (course : Course) (held : Files) (before after : Taken) (line : ℕ) (reason : Reason) : Type 0 where
