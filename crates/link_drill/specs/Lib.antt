@@ -6,3 +6,5 @@ pub mod Sent
 pub mod Arrivals
 pub mod InRun
 pub mod Summary
+pub mod Text
+pub mod Course

@@ -6,6 +6,7 @@
 //! one in sixteen is lost, the others arrive within their windows, and one in sixteen arrives twice.
 #![tactic(auto)]
 
+mod call;
 mod draws;
 mod fates;
 mod packet;
@@ -14,6 +15,7 @@ mod run_plan;
 mod sending;
 mod summary;
 
+pub use call::drill_number;
 pub use summary::{Summary, drill};
 
 #[cfg(test)]
