@@ -138,10 +138,10 @@ module _ (p : Plan) (h : ℕ) (σ : Stream) (f : Flow) (good : IsGood p) (plain 
       (eq-eqb (length payload) (f.frames * octets_of_frame p f) size)
 
   -- what a packet of the stream is as a payload that arrives
-  abbrev arrival : (t i : ℕ) → List ℕ → Arrival
+  abbrev pub arrival : (t i : ℕ) → List ℕ → Arrival
   arrival t i payload = record { tick = t; seq = sequence_of f i; payload = payload }
 
-  arrival_of-packet : (i : ℕ) (r : Record) → (packet : IsPacket p σ f i r.octets) → arrival_of p f r ≡ Some (arrival r.tick i packet.payload)
+  pub arrival_of-packet : (i : ℕ) (r : Record) → (packet : IsPacket p σ f i r.octets) → arrival_of p f r ≡ Some (arrival r.tick i packet.payload)
   arrival_of-packet i r packet =
       let fields = packet_fields p f i packet.payload in
       ap (arrival_by p f r.tick) (parsed-packet i r.octets packet)
