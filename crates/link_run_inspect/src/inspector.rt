@@ -235,11 +235,7 @@ impl Feed for Inspector {
 
     ghost lines_left = { λ i. i.due - i.reception.number };
 
-    fn open(
-        _: &(),
-        alloc: Global,
-        line: &[u8],
-    ) -> Result<Option<Inspector>, NoMemory> {
+    fn open(_: &(), alloc: Global, line: &[u8]) -> Result<Option<Inspector>, NoMemory> {
         match header(line) {
             Some((width, due)) => Ok(Some(Inspector::begin(alloc, width, due)?)),
             None => Ok(None),

@@ -106,11 +106,7 @@ impl Feed for CaptureRun {
 
     ghost lines_left = { λ w. w.lines_left };
 
-    fn open(
-        given: &Checked,
-        alloc: Global,
-        line: &[u8],
-    ) -> Result<Option<Self>, NoMemory> {
+    fn open(given: &Checked, alloc: Global, line: &[u8]) -> Result<Option<Self>, NoMemory> {
         let width = octets_of_word(given.plan().option);
         match read_header(width, line) {
             Some(header) => match CaptureRun::begin(alloc, given, header) {

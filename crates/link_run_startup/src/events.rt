@@ -185,11 +185,7 @@ impl Feed for Events {
 
     ghost lines_left = { λ s. 65536 - s.count };
 
-    fn open(
-        _: &(),
-        alloc: Global,
-        line: &[u8],
-    ) -> Result<Option<Events>, NoMemory> {
+    fn open(_: &(), alloc: Global, line: &[u8]) -> Result<Option<Events>, NoMemory> {
         match header_caps(line) {
             Some(caps) => Ok(Some(Events {
                 world: World::begin(alloc, caps.0, caps.1)?,
