@@ -15,7 +15,7 @@ returns-in_ok-push c =
     let s = c.args.sender.now in
     let Y : ℕ = c.args.words in
     let is = run_words s Y c.requires.run c.requires.words in
-    let found = c.in-Some.ensures (drill_flow Y) (flow_read s.plan Y is) in
+    let found = c.in-Some.ensures.packet (drill_flow Y) (flow_read s.plan Y is) in
     kept_more s.plan Y is s c.args.drawn.now c.requires.sent c.requires.run.frames c.packets_are_settled.ensures c.packets_are_determined.ensures found.0 c.in-Some.octets.now found.1
     (found.2 c.requires.sent.stream c.requires.sent.stands) c.args.packets.now.items c.push.new.self.items c.in_ok-copied.field-0 c.requires.before c.in_ok-push.ensures.items
     c.in_ok-copied.ensures
@@ -25,5 +25,5 @@ returns-in_default c =
     let s = c.args.sender.now in
     let Y : ℕ = c.args.words in
     let is = run_words s Y c.requires.run c.requires.words in
-    kept_none s.plan Y is s c.args.drawn.now c.requires.sent c.requires.run.frames c.requires.tick (c.in_default.ensures (drill_flow Y) (flow_read s.plan Y is))
+    kept_none s.plan Y is s c.args.drawn.now c.requires.sent c.requires.run.frames c.requires.tick (c.in_default.ensures.packet (drill_flow Y) (flow_read s.plan Y is))
     c.args.packets.now.items c.requires.before

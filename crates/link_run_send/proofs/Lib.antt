@@ -1,0 +1,17 @@
+pub mod DuePlaces
+pub mod Ends
+pub mod GatheredItems
+pub mod HandedOn
+pub mod HandedOver
+pub mod HandedStreams
+pub mod Kept
+pub mod LackingPlaces
+pub mod MadeTicks
+pub mod NextSamples
+pub mod Queued
+pub mod SampleNumbers
+pub mod SentRecords
+pub mod SentSymbols
+pub mod SettledTexts
+pub mod TakenSamples
+pub mod VersionLines

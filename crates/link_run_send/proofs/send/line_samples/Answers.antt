@@ -1,0 +1,11 @@
+use Rattle.std.proofs.Common.{true}
+use Rattle.link_run_send.specs.Send.{send_by}
+use Rattle.link_run_send.specs.declared.run_output.Output.TheVariants.{Symbols}
+use Rattle.link_run_send.proofs.send.line_samples.Goals as goal
+
+pub returns-in-Ok-clause-promises : goal.returns-in-Ok-clause-promises
+returns-in-Ok-clause-promises g c =
+    c.in-Ok.ensures.goes_on.promises true (send_by Symbols c.args.samples.now) (g.H.Shelf.shown c.read_feed.new.shelf) (g.K.Sink.taken c.read_feed.new.out) c.read_feed.result c.read_feed.ensures.promises
+
+pub returns-in-Err-clause-promises : goal.returns-in-Err-clause-promises
+returns-in-Err-clause-promises g c = c.in-Err.ensures.ends true (send_by Symbols c.args.samples.now)
