@@ -1,6 +1,7 @@
 //! `roe_link`: whether a plan of a CPRI link in Radio-over-Ethernet packets holds.
 #![tactic(auto)]
 
+mod drill_number;
 mod form;
 mod people;
 mod run;

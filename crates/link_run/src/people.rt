@@ -33,11 +33,16 @@ fn explain_usage(rt: &impl Eprint) -> io::Result<()> {
     eprintln!(rt;
         "  roe_link replay PLAN CAPTURE    plays captured packets, and prints the samples that leave"
     )?;
+    eprintln!(rt; "  roe_link send PLAN SAMPLES      writes the packets of samples, as a capture")?;
+    eprintln!(rt; "  roe_link line PLAN SAMPLES      writes the 8B/10B symbols of samples")?;
     eprintln!(rt;
         "  roe_link inspect LINE           says what the 8B/10B symbols of a line show: synchronization, announcements, management frames"
     )?;
     eprintln!(rt;
         "  roe_link startup EVENTS         says what two ends of a link do over a list of start-up events"
+    )?;
+    eprintln!(rt;
+        "  roe_link drill NUMBER           makes a run from a number, loses and repeats packets, and counts what is played"
     )
 }
 
@@ -45,7 +50,7 @@ fn explain_usage(rt: &impl Eprint) -> io::Result<()> {
 fn plan_of<'a>(form: &Option<Form<'a>>) -> &'a str {
     match form {
         Some(Form::Check { plan }) => plan,
-        Some(Form::Replay { plan, .. }) => plan,
+        Some(Form::Replay { plan, .. } | Form::Send { plan, .. } | Form::Line { plan, .. }) => plan,
         _ => "the plan",
     }
 }
@@ -56,6 +61,7 @@ fn feed_of<'a>(form: &Option<Form<'a>>) -> &'a str {
         Some(Form::Startup { events }) => events,
         Some(Form::Inspect { line }) => line,
         Some(Form::Replay { capture, .. }) => capture,
+        Some(Form::Send { samples, .. } | Form::Line { samples, .. }) => samples,
         _ => "the file",
     }
 }
@@ -71,7 +77,10 @@ fn explain_fault(
         Some(Form::Startup { events }) => explain_file(rt, events, shelf),
         Some(Form::Inspect { line }) => explain_file(rt, line, shelf),
         Some(Form::Replay { plan, capture }) => explain_files(rt, plan, capture, shelf),
-        None => Ok(()),
+        Some(Form::Send { plan, samples } | Form::Line { plan, samples }) => {
+            explain_files(rt, plan, samples, shelf)
+        }
+        Some(Form::Drill { .. }) | None => Ok(()),
     }
 }
 
@@ -105,7 +114,9 @@ fn explain_line(rt: &impl Eprint, name: &str, line: u64, reason: Reason) -> io::
         Reason::Range => "a value does not fit the bits of its carrier",
         Reason::Count => "the file has too few lines or too many",
         Reason::Many => "the file has too many lines, or too many announcements are on their way",
-        Reason::Word => "an event was expected, such as `tell 1`, or `end`",
+        Reason::Word => {
+            "an event such as `tell 1`, or a frame of a management channel that is announced, before the samples, was expected"
+        }
         Reason::Long => "a line has at most 4,096 octets",
         Reason::Unended => "the file ends before the line feed after `end`",
         Reason::After => "nothing may follow `end`",

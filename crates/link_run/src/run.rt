@@ -1,18 +1,22 @@
 // The top call: one answer for each call of the program.
-ghost use Rattle.std.specs.Prelude.{◌≡◌, ◌≢◌, ◌↔◌, ◌∷◌, [], ℕ, List, codes, map, string_bytes, IsTrue, None};
+ghost use Rattle.std.specs.Prelude.{◌≡◌, ◌≢◌, ◌↔◌, ◌∷◌, [], ℕ, List, codes, map, string_bytes, IsTrue, None, false};
+ghost use Rattle.link_drill.specs.Course.{drill};
 ghost use Rattle.link_run_feed.specs.Promises.{Promises, IsComplete};
 ghost use Rattle.link_run_plan.specs.ChecksPlan.{ChecksPlan};
 ghost use Rattle.link_run.specs.Call.{call_of, course_of, reads_feed};
 ghost use Rattle.link_run.specs.CodeForm.{call_shown};
 ghost use Rattle.link_run.specs.Plays.{PlaysCapture};
 
+use crate::drill_number::DrillNumber;
 use crate::form::{Form, form_of};
 use link_base::{Shelf, Sink};
+use link_drill::drill_number;
 use link_run_delay::{management_arrives, samples_are_delayed};
 use link_run_feed::Status;
 use link_run_inspect::inspect;
 use link_run_plan::check_plan;
 use link_run_replay::replay_capture;
+use link_run_send::{line_samples, send_samples};
 use link_run_startup::play_events;
 use std::alloc::Global;
 
@@ -35,6 +39,20 @@ pub fn run<H: Shelf, K: Sink>(alloc: Global, words: &[String], shelf: &mut H, ou
     run_form(alloc, form_of(words), shelf, out)
 }
 
+// A drill comes to no file, and leaves the shelf as it is.
+fn drill_alone<H: Shelf, K: Sink>(
+    alloc: Global,
+    number: DrillNumber,
+    _shelf: &mut H,
+    out: &mut K,
+) -> Status
+    ensures untouched { H.shown _shelf.new ≡ H.shown _shelf.old }
+    ensures promises { Promises false (drill number.value (H.shown _shelf.old).held) (H.shown _shelf.old) (H.shown _shelf.new) (K.taken out.old) (K.taken out.new) result }
+    ensures usage { result ≢ Status.Usage }
+{
+    drill_number(alloc, number.value, out)
+}
+
 // Answers a form of the words.
 fn run_form<H: Shelf, K: Sink>(
     alloc: Global,
@@ -52,5 +70,8 @@ fn run_form<H: Shelf, K: Sink>(
         Some(Form::Startup { events }) => play_events(alloc, events, shelf, out),
         Some(Form::Inspect { line }) => inspect(alloc, line, shelf, out),
         Some(Form::Replay { plan, capture }) => replay_capture(alloc, plan, capture, shelf, out),
+        Some(Form::Send { plan, samples }) => send_samples(alloc, plan, samples, shelf, out),
+        Some(Form::Line { plan, samples }) => line_samples(alloc, plan, samples, shelf, out),
+        Some(Form::Drill { number }) => drill_alone(alloc, number, shelf, out),
     }
 }
