@@ -1,4 +1,7 @@
 // The first failure of a plan in words: what stands in the plan, and what the rule allows.
+ghost use Rattle.std.specs.Prelude.{◌≡◌, string_bytes, IfOk};
+ghost use Rattle.plan_sentences.specs.Places.{place_text};
+
 use crate::carriers_in_words::carrier_in_words;
 use crate::flows_in_words::{flow_in_words, sharing_in_words};
 use carrier_plan::Plan;
@@ -18,11 +21,16 @@ pub fn rule_in_words(alloc: Global, refused: &Refused) -> Result<String, AllocEr
 }
 
 /// The rule, with the carrier or flow where it speaks of one.
-pub fn place_in_words(alloc: Global, rule: u32, item: u32) -> Result<String, AllocError> {
-    match rule {
-        4..=8 => format!(in alloc; "rule {rule}, carrier {item}"),
-        10..=14 => format!(in alloc; "rule {rule}, flow {item}"),
-        _ => format!(in alloc; "rule {rule}"),
+#[tactic(auto, using(crate::proofs::Places::place_alone), unfolding(crate::specs::Places::place_text))]
+pub fn place_in_words(alloc: Global, rule: u32, item: u32) -> Result<String, AllocError>
+    ensures { IfOk result (λ text. string_bytes text ≡ place_text rule item) }
+{
+    if rule > 3 && rule < 9 {
+        format!(in alloc; "rule {rule}, carrier {item}")
+    } else if rule > 9 && rule < 15 {
+        format!(in alloc; "rule {rule}, flow {item}")
+    } else {
+        format!(in alloc; "rule {rule}")
     }
 }
 
