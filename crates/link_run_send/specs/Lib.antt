@@ -7,4 +7,6 @@ pub mod SendsRun
 pub mod ComesNext
 pub mod Sends
 pub mod Send
+pub mod RunText
+pub mod SendsFile
 pub mod WholeText
