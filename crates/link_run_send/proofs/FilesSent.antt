@@ -1,8 +1,7 @@
 -- A call of `send` or `line` that is done has written the whole text of its file.
-use Rattle.std.proofs.Common.{◌≡◌, ◌≢◌, ℕ, List, refl, sym, ap, subst, ◌∙◌, Option, Some, None, Ok}
+use Rattle.std.proofs.Common.{◌≡◌, ℕ, List, refl, sym, ap, subst, ◌∙◌, Option, Some, None, Ok}
 use Rattle.std.specs.FinMap.{get}
 use Rattle.carrier_plan.specs.PlanOf.{plan_of}
-use Rattle.carrier_plan.specs.declared.fault.PlanText as fault
 use Rattle.carrier_plan.specs.declared.plan.Plan.{Plan}
 use Rattle.link_base.specs.Shelf.{Files}
 use Rattle.link_base.specs.Sink.{Appends, Taken}
@@ -20,21 +19,11 @@ use Rattle.link_run_send.specs.Sent.{sent_form}
 use Rattle.link_run_send.specs.declared.run_output.Output.{Output}
 use Rattle.link_run_send.proofs.WholeTexts.{TextIsWhole-holds}
 
--- statuses that differ
-no_is_not_done : (rule item : ℕ) → Done ≢ No rule item
-no_is_not_done rule item is = cc
-
-text_is_not_done : (why : fault.PlanText) → Done ≢ PlanText why
-text_is_not_done why is = cc
-
-fault_is_not_done : Done ≢ ReadFault
-fault_is_not_done is = cc
-
 module _ (output : Output) (plan samples : List ℕ) (held : Files) (sink sink' : Taken) where
   module _ (octets : List ℕ) (p : Plan) (here : get held plan ≡ Some octets) (is : plan_of octets ≡ Ok p) (good : IsGood p) where
     by_feed : (found : Option (List ℕ)) → get held samples ≡ found → (answer : Answer) → answer ≡ answer_on_file (feed_answer (sent_form output p)) found
         → Done ≡ answer.status → Appends answer.text sink sink' → SendsFile output plan samples held sink sink'
-    by_feed None there answer same status written = absurd (fault_is_not_done (status ∙ ap (λ (a : Answer). a.status) same))
+    by_feed None there answer same status written = absurd (let no : Done ≡ ReadFault = status ∙ ap (λ (a : Answer). a.status) same in cc)
     by_feed (Some feed) there answer same status written = record {
       octets = octets;
       p = p;
@@ -52,9 +41,9 @@ module _ (output : Output) (plan samples : List ℕ) (held : Files) (sink sink' 
       → SendsFile output plan samples held sink sink'
   sent course (is_good octets p here is judged runs) status written =
       by_feed octets p here is ((VerdictIsComputed-holds.good p).0 judged) (get held samples) refl course.answer (ap (λ (c : Course). c.answer) runs) status written
-  sent course (fails octets p rule item here is judged runs) status written = absurd (no_is_not_done rule item (status ∙ ap (λ (c : Course). c.answer.status) runs))
-  sent course (is_none why runs) status written = absurd (text_is_not_done why (status ∙ ap (λ (c : Course). c.answer.status) runs))
-  sent course (no_file runs) status written = absurd (fault_is_not_done (status ∙ ap (λ (c : Course). c.answer.status) runs))
+  sent course (fails octets p rule item here is judged runs) status written = absurd (let no : Done ≡ No rule item = status ∙ ap (λ (c : Course). c.answer.status) runs in cc)
+  sent course (is_none why runs) status written = absurd (let no : Done ≡ PlanText why = status ∙ ap (λ (c : Course). c.answer.status) runs in cc)
+  sent course (no_file runs) status written = absurd (let no : Done ≡ ReadFault = status ∙ ap (λ (c : Course). c.answer.status) runs in cc)
 
 pub FilesAreSent-holds : FilesAreSent
 unfolding on_plan
