@@ -1,5 +1,5 @@
 -- A good line of a file of samples is the sample that comes next, or a frame of a management channel before the first sample.
-use Rattle.std.proofs.Common.{◌≡◌, ◌≢◌, ℕ, ◌+◌, List, [], Bool, true, false, Option, Some, None, Result, Ok, Err, length, refl, sym, ap, ◌∙◌}
+use Rattle.std.proofs.Common.{◌≡◌, ◌≢◌, ℕ, ◌+◌, ◌≤◌, List, [], Bool, true, false, Option, Some, None, Result, Ok, Err, length, refl, sym, ap, ◌∙◌}
 use Rattle.std.specs.Prelude.{bytes_eq, codes, nat_lt, ◌==◌, ◌||◌, if◌then◌else◌}
 use Rattle.std.proofs.lemmas.Bool.{eq-eqb, ltb-false}
 use Rattle.ethernet_channel.specs.FastStream as fast
@@ -38,6 +38,19 @@ neither false b is = (refl, is)
 some_number : (n : ℕ) → n == 0 ≡ false → n ≢ 0
 some_number n is zero_is = let e = eq-eqb n 0 zero_is in cc
 
+-- a frame of a channel that is announced, before the first sample
+is_announced : {X : Type 0} (some : Bool) (code : ℕ) (read : Result X Reason) (x : X) → (if some || code == 0 then Err Word else read) ≡ Ok x → (some ≡ false) × (code ≢ 0) × (read ≡ Ok x)
+is_announced some code read x is =
+    let may = not_refused (some || code == 0) Word read x is in
+    let tests = neither some (code == 0) may.0 in
+    (tests.0, some_number code tests.1, may.1)
+
+-- a frame that is not too long, in a queue that has room for it
+is_queued : {X : Type 0} (most room size : ℕ) (x y : X) → (if nat_lt most size || nat_lt room (size + 2) then Err Many else Ok y) ≡ Ok x → (size ≤ most) × (x ≡ y)
+is_queued most room size x y is =
+    let may = not_refused (nat_lt most size || nat_lt room (size + 2)) Many (Ok y) x is in
+    (ltb-false most size (neither (nat_lt most size) (nat_lt room (size + 2)) may.0).0, let ok = may.1 in cc)
+
 module _ (s : Sent) (line : List ℕ) (after : Sent × List ℕ) where
   sample_is : (c : Option ℕ) (v : Option RawIq) → next_carrier s.plan s.header.run_ticks s.stream ≡ c → sample_of line ≡ v → by_sample s c v ≡ Ok after → LineIs s line after
   sample_is None v next gives is = absurd (cc)
@@ -56,30 +69,26 @@ module _ (s : Sent) (line : List ℕ) (after : Sent × List ℕ) where
     slow_is : (found : Option (List ℕ)) → spelled_octets digits ≡ found → slow_frame line ≡ spelled_octets digits → has_samples s.stream ≡ false → s.header.announce.hdlc ≢ 0 → by_slow s found ≡ Ok after → LineIs s line after
     slow_is None found gives none announced is = absurd (cc)
     slow_is (Some frame) found gives none announced is =
-        let may = not_refused (nat_lt 1500 (length frame) || nat_lt (slow.room_of s.stream.slow) (length frame + 2)) Many (Ok (with_stream s (with_slow s.stream frame), [])) after is in
-        let short = (neither (nat_lt 1500 (length frame)) (nat_lt (slow.room_of s.stream.slow) (length frame + 2)) may.0).0 in
-        slow_came frame second none announced (gives ∙ found) (slow_frame-may digits frame found (ltb-false 1500 (length frame) short)) (let ok = may.1 in cc)
+        let queued = is_queued 1500 (slow.room_of s.stream.slow) (length frame) after (with_stream s (with_slow s.stream frame), []) is in
+        slow_came frame second none announced (gives ∙ found) (slow_frame-may digits frame found queued.0) queued.1
 
     slow_line_is : slow_frame line ≡ spelled_octets digits → slow_line s digits ≡ Ok after → LineIs s line after
     unfolding slow_line
     slow_line_is gives is =
-        let may = not_refused (has_samples s.stream || s.header.announce.hdlc == 0) Word (by_slow s (spelled_octets digits)) after is in
-        let tests = neither (has_samples s.stream) (s.header.announce.hdlc == 0) may.0 in
-        slow_is (spelled_octets digits) refl gives tests.0 (some_number s.header.announce.hdlc tests.1) may.1
+        let may = is_announced (has_samples s.stream) s.header.announce.hdlc (by_slow s (spelled_octets digits)) after is in
+        slow_is (spelled_octets digits) refl gives may.0 may.1 may.2
 
     fast_is : (found : Option (List ℕ)) → spelled_octets digits ≡ found → fast_frame line ≡ spelled_octets digits → has_samples s.stream ≡ false → s.header.announce.pointer ≢ 0 → by_fast s found ≡ Ok after → LineIs s line after
     fast_is None found gives none announced is = absurd (cc)
     fast_is (Some frame) found gives none announced is =
-        let may = not_refused (nat_lt 1522 (length frame) || nat_lt (fast.room_of s.stream.fast) (length frame + 2)) Many (Ok (with_stream s (with_fast s.stream frame), [])) after is in
-        let short = (neither (nat_lt 1522 (length frame)) (nat_lt (fast.room_of s.stream.fast) (length frame + 2)) may.0).0 in
-        fast_came frame second none announced (gives ∙ found) (fast_frame-may digits frame found (ltb-false 1522 (length frame) short)) (let ok = may.1 in cc)
+        let queued = is_queued 1522 (fast.room_of s.stream.fast) (length frame) after (with_stream s (with_fast s.stream frame), []) is in
+        fast_came frame second none announced (gives ∙ found) (fast_frame-may digits frame found queued.0) queued.1
 
     fast_line_is : fast_frame line ≡ spelled_octets digits → fast_line s digits ≡ Ok after → LineIs s line after
     unfolding fast_line
     fast_line_is gives is =
-        let may = not_refused (has_samples s.stream || s.header.announce.pointer == 0) Word (by_fast s (spelled_octets digits)) after is in
-        let tests = neither (has_samples s.stream) (s.header.announce.pointer == 0) may.0 in
-        fast_is (spelled_octets digits) refl gives tests.0 (some_number s.header.announce.pointer tests.1) may.1
+        let may = is_announced (has_samples s.stream) s.header.announce.pointer (by_fast s (spelled_octets digits)) after is in
+        fast_is (spelled_octets digits) refl gives may.0 may.1 may.2
 
   -- by the first word of the line, where it has a space
   module _ (second : s.header.version ≡ Two) (fields : List ℕ × List ℕ) (are : at_first_space line ≡ Some fields) where
@@ -100,8 +109,8 @@ module _ (s : Sent) (line : List ℕ) (after : Sent × List ℕ) where
   -- a line without a space is no frame
   no_fields_are : (is_slow is_fast : Bool) → (if is_slow then slow_line s [] else (if is_fast then fast_line s [] else sample_line s line)) ≡ Ok after → LineIs s line after
   unfolding slow_line fast_line
-  no_fields_are true is_fast is = absurd (let may = not_refused (has_samples s.stream || s.header.announce.hdlc == 0) Word (by_slow s None) after is in let no = may.1 in cc)
-  no_fields_are false true is = absurd (let may = not_refused (has_samples s.stream || s.header.announce.pointer == 0) Word (by_fast s None) after is in let no = may.1 in cc)
+  no_fields_are true is_fast is = absurd (let may = is_announced (has_samples s.stream) s.header.announce.hdlc (by_slow s None) after is in let no = may.2 in cc)
+  no_fields_are false true is = absurd (let may = is_announced (has_samples s.stream) s.header.announce.pointer (by_fast s None) after is in let no = may.2 in cc)
   no_fields_are false false is = sample_line_is is
 
   fields_are : s.header.version ≡ Two → (found : Option (List ℕ × List ℕ)) → at_first_space line ≡ found → by_word s line (word_and_rest line found) ≡ Ok after → LineIs s line after
