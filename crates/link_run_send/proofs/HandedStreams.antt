@@ -1,9 +1,10 @@
 -- Streams with more samples of a carrier.
-use Rattle.std.proofs.Common.{◌≡◌, ◌≢◌, ℕ, zero, suc, ◌*◌, ◌/◌, ◌<◌, List, [], ◌∷◌, ◌++◌, length, get_or, set, slice_get, Some, length-set, get_or-set_other, get_or-set_same, append_assoc, append-nil, refl, sym, ap, ◌∙◌, subst, arith, inl, inr, Bool, true, false, map}
+use Rattle.std.proofs.Common.{◌≡◌, ◌≢◌, ℕ, zero, suc, ◌*◌, ◌/◌, ◌<◌, ◌≤◌, List, [], ◌∷◌, ◌++◌, length, get_or, set, slice_get, Some, length-set, get_or-set_other, get_or-set_same, append_assoc, append-nil, refl, sym, ap, ◌∙◌, subst, arith, inl, inr, Bool, true, false, map}
 use Rattle.std.specs.Prelude.{nat_lt, ◌||◌}
 use Rattle.std.specs.List.{list_any}
 use Rattle.std.proofs.lemmas.Bool.{cases_eq, lt-ltb}
 use Rattle.std.proofs.lemmas.List.{get_or_append_left, set-get_or}
+use Rattle.std.proofs.lemmas.Option.{slice_get_within}
 use Rattle.std.proofs.lemmas.Nat.{div-add-mod', le-div, mul-le}
 use Rattle.carrier_plan.specs.declared.plan.Carrier.{Carrier}
 use Rattle.carrier_plan.specs.declared.plan.Plan.{Plan}
@@ -74,19 +75,40 @@ has_none (x ∷ xs) = has_none xs
 
 -- ---- what more samples do not change
 
+-- a sample of a block that is handed in before tick t is handed in before it
+before_tick : (p : Plan) (t : ℕ) → IsGood p → (d : ℕ) (carrier : Carrier) (j : ℕ) → slice_get p.carriers d ≡ Some carrier → j < t / carrier.k * carrier.s → j < samples_before p d t
+before_tick p t good d carrier j read early =
+    let is = good_carrier p d carrier good read in
+    let now = samples_before-carrier p d carrier t is in
+    let split = div-add-mod' t carrier.k in
+    let blocks = mul-le (t / carrier.k * carrier.k) carrier.s t carrier.s (omega (arith, split)) (omega arith) in
+    let start = le-div (t / carrier.k * carrier.s) (t * carrier.s) carrier.k is.some_frames (omega (arith, blocks)) in
+    omega (arith, early, start, now)
+
+-- The second stream has the samples of the first, and maybe more after them.
+pub record IsLonger (p : Plan) (σ τ : Stream) : Type 0 where
+  pub announcement : τ.announcement ≡ σ.announcement
+  pub slow : τ.slow ≡ σ.slow
+  pub fast : τ.fast ≡ σ.fast
+  pub more : ℕ → List RawIq
+  pub samples : (c : ℕ) → c < length p.carriers → samples_of τ c ≡ samples_of σ c ++ more c
+
+-- Where all carriers have the samples that are handed in before tick t, more samples change nothing of what is handed in before it.
+pub agrees_longer : (p : Plan) (σ τ : Stream) (t : ℕ) → IsGood p → IsLonger p σ τ → ((c : ℕ) → c < length p.carriers → samples_before p c t ≤ length (samples_of σ c)) → AgreesBefore p t σ τ
+agrees_longer p σ τ t good longer enough = record {
+  announcement = longer.announcement;
+  slow = longer.slow;
+  fast = longer.fast;
+  samples = λ d carrier j read early.
+      let inside = slice_get_within p.carriers d carrier read in
+      let less = before_tick p t good d carrier j read early in
+      ap (λ xs. get_or xs j zero_sample) (longer.samples d inside) ∙ get_or_append_left (samples_of σ d) (longer.more d) zero_sample j (omega (arith, less, enough d inside));
+}
+
 -- More samples of a carrier that has those that are handed in before tick t change nothing of what is handed in before it.
 module _ (p : Plan) (σ : Stream) (c t : ℕ) (more : List RawIq) (good : IsGood p) (inside : c < length σ.samples) (handed : length (samples_of σ c) ≡ samples_before p c t) where
   early_at : (j : ℕ) → j < length (samples_of σ c) → sample_at (with_samples σ c more) c j ≡ sample_at σ c j
   early_at j less = ap (λ xs. get_or xs j zero_sample) (samples_with σ c inside more) ∙ get_or_append_left (samples_of σ c) more zero_sample j less
-
-  before_tick : (d : ℕ) (carrier : Carrier) (j : ℕ) → slice_get p.carriers d ≡ Some carrier → j < t / carrier.k * carrier.s → j < samples_before p d t
-  before_tick d carrier j read early =
-      let is = good_carrier p d carrier good read in
-      let now = samples_before-carrier p d carrier t is in
-      let split = div-add-mod' t carrier.k in
-      let blocks = mul-le (t / carrier.k * carrier.k) carrier.s t carrier.s (omega (arith, split)) (omega arith) in
-      let start = le-div (t / carrier.k * carrier.s) (t * carrier.s) carrier.k is.some_frames (omega (arith, blocks)) in
-      omega (arith, early, start, now)
 
   pub agrees_with : AgreesBefore p t σ (with_samples σ c more)
   agrees_with = record {
@@ -95,7 +117,7 @@ module _ (p : Plan) (σ : Stream) (c t : ℕ) (more : List RawIq) (good : IsGood
     fast = refl;
     samples = λ d carrier j read early. elim (cases_eq d c) [
       | inl here ↦
-          let less = before_tick d carrier j read early in
+          let less = before_tick p t good d carrier j read early in
           subst (λ n. sample_at (with_samples σ c more) n j ≡ sample_at σ n j) (sym here) (early_at j (omega (arith, less, ap (λ n. samples_before p n t) here, handed)))
       | inr other ↦ ap (λ xs. get_or xs j zero_sample) (samples_beside σ c more d other)
     ];

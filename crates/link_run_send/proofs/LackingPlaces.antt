@@ -15,7 +15,7 @@ use Rattle.link_run_send.specs.Lacking.{carrier_at, complete_ticks, lacking_carr
 
 -- ---- the first number of some that passes a test
 
-find_none : (t : ℕ → Bool) (a m : ℕ) → ((s : ℕ) → a ≤ s → s < a + m → t s ≡ false) → find t (range_with_len a m) ≡ None
+pub find_none : (t : ℕ → Bool) (a m : ℕ) → ((s : ℕ) → a ≤ s → s < a + m → t s ≡ false) → find t (range_with_len a m) ≡ None
 find_none t a zero fails = refl
 find_none t a (suc m) fails =
     let here : t a ≡ false = fails a (omega arith) (omega arith) in

@@ -40,11 +40,14 @@ fits_from m z is = (record { le = held _ (first_of _ _ is) }, record { lt = held
 pub within_true : (m : ℕ) (v : RawIq) → IsWithin m v → is_within m v ≡ true
 within_true m v within = both _ _ (fits_true m v.i within.i) (fits_true m v.q within.q)
 
+pub within_from : (m : ℕ) (v : RawIq) → is_within m v ≡ true → IsWithin m v
+within_from m v is = record { i = fits_from m v.i (first_of _ _ is); q = fits_from m v.q (second_of _ _ is) }
+
 pub within_false : (m : ℕ) (v : RawIq) → ¬ IsWithin m v → is_within m v ≡ false
 within_false m v outside = by (is_within m v) refl
   where
     by : (b : Bool) → is_within m v ≡ b → is_within m v ≡ false
-    by true is = absurd (outside (record { i = fits_from m v.i (first_of _ _ is); q = fits_from m v.q (second_of _ _ is) }))
+    by true is = absurd (outside (within_from m v is))
     by false is = is
 
 -- ---- one sample, as it is looked for among those outside

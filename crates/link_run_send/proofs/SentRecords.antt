@@ -19,7 +19,7 @@ use Rattle.plan_checker.specs.Rules.{IsGood}
 use Rattle.link_run_send.specs.SentText.{flow_text, opening_at}
 
 module _ (test : ℕ → Bool) where
-  none_passes : (a n : ℕ) → ((j : ℕ) → a ≤ j → j < a + n → test j ≡ false) → filter test (range_with_len a n) ≡ []
+  pub none_passes : (a n : ℕ) → ((j : ℕ) → a ≤ j → j < a + n → test j ≡ false) → filter test (range_with_len a n) ≡ []
   none_passes a zero fails = refl
   none_passes a (suc n) fails = cond-false (test a) _ _ (fails a (omega arith) (omega arith)) ∙ none_passes (a + 1) n (λ j from below. fails j (omega arith) (omega arith))
 

@@ -1,7 +1,6 @@
 -- What is kept of a run goes on with a sample more.
-use Rattle.std.proofs.Common.{◌≡◌, ℕ, zero, suc, ◌+◌, ◌<◌, ◌≤◌, List, [], ◌∷◌, ◌++◌, length, length-append, length-set, length-take, set, take, All, Bool, true, false, Some, Result, Ok, Err, refl, sym, ap, ◌∙◌, subst, arith, append_assoc, inl, inr}
-use Rattle.std.specs.Prelude.{OnOk, is_some, cond}
-use Rattle.std.specs.List.{find, range_with_len}
+use Rattle.std.proofs.Common.{◌≡◌, ℕ, ◌+◌, ◌<◌, ◌≤◌, List, [], ◌∷◌, ◌++◌, length, length-append, length-set, length-take, set, take, All, true, Result, Ok, Err, refl, sym, ap, ◌∙◌, subst, arith, append_assoc, inl, inr}
+use Rattle.std.specs.Prelude.{OnOk, is_some}
 use Rattle.std.proofs.lemmas.Bool.{cases_eq, cases_lt}
 use Rattle.std.proofs.lemmas.List.{take_more_set}
 use Rattle.std.proofs.lemmas.List.Elements.{All-push}
@@ -21,13 +20,14 @@ use Rattle.plan_checker.specs.Run.{samples_before}
 use Rattle.sample_bits.specs.Samples.{IsWithin}
 use Rattle.sample_bits.specs.declared.iq.RawIq.{RawIq}
 use Rattle.link_run_send.specs.ComesNext.{ComesLater, IsCounted}
-use Rattle.link_run_send.specs.Lacking.{complete_ticks, lacking_carrier, lacking_tick, or_all}
+use Rattle.link_run_send.specs.Lacking.{complete_ticks, lacking_carrier, lacking_tick}
 use Rattle.link_run_send.specs.Sends.{KeepsSent, come_of, made_to, places_left}
 use Rattle.link_run_send.specs.Sent.{Sent, complete_of, has_samples, text_below, width_of, with_sample}
 use Rattle.link_run_send.specs.SentText.{text_between}
 use Rattle.link_run_send.specs.declared.due.Due.{Due}
 use Rattle.link_run_send.specs.declared.run_output.Output.{Output}
 use Rattle.link_run_send.specs.declared.sample_run.SampleRun.{SampleRun}
+use Rattle.link_run_send.proofs.CompleteTicks.{find_from}
 use Rattle.link_run_send.proofs.HandedOn.{same_text}
 use Rattle.link_run_send.proofs.HandedStreams.{agrees_with, has_with, with_none, with_twice}
 use Rattle.link_run_send.proofs.Kept.{as_many, by_run, counted}
@@ -47,18 +47,6 @@ pub within_more : (p : Plan) (c come : ℕ) (samples : List RawIq) (v : RawIq) �
     → All (IsWithin (width_of p c)) (take (come + 1) (set samples come v))
 within_more p c come samples v inside all one =
     subst (All (IsWithin (width_of p c))) (sym (take_more_set samples come v inside)) (All-push (IsWithin (width_of p c)) (take come samples) v all one)
-
--- nothing is found before a place where nothing passes
-find_from : (test : ℕ → Bool) (h t a n : ℕ) → t ≤ h → ((i : ℕ) → i < t → test i ≡ false) → t ≤ or_all h (find test (range_with_len a n))
-find_from test h t a zero within none = within
-find_from test h t a (suc n) within none = by (test a) refl (find_from test h t (a + 1) n within none)
-  where
-    by : (b : Bool) → test a ≡ b → t ≤ or_all h (find test (range_with_len (a + 1) n)) → t ≤ or_all h (cond b (Some a) (find test (range_with_len (a + 1) n)))
-    by true passes later = elim (cases_lt a t) [
-      | inl early ↦ absurd (let e = sym passes ∙ none a early in cc)
-      | inr late ↦ late
-    ]
-    by false fails later = later
 
 pub complete_from : (p : Plan) (h : ℕ) (σ : Stream) (tick carrier come : ℕ) → LengthsAt p σ tick carrier come → tick ≤ h → tick ≤ complete_ticks p h σ
 unfolding lacking_tick

@@ -1,4 +1,5 @@
 pub mod Lacking
+pub mod SampleFile
 pub mod SampleLine
 pub mod SentText
 pub mod Sent
@@ -6,3 +7,6 @@ pub mod SendsRun
 pub mod ComesNext
 pub mod Sends
 pub mod Send
+pub mod RunText
+pub mod SendsFile
+pub mod WholeText

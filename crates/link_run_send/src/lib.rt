@@ -2,6 +2,7 @@
 #![tactic(auto)]
 
 mod due;
+mod laws;
 mod run_output;
 mod sample_feed;
 mod sample_line;
@@ -9,6 +10,10 @@ mod sample_lines;
 mod sample_run;
 mod send;
 
+pub use laws::{
+    files_are_sent, packets_are_written_once, symbols_are_one_line, text_is_settled, text_is_whole,
+    ticks_are_complete,
+};
 pub use run_output::Output;
 pub use send::{line_samples, send_samples};
 
