@@ -1,2 +1,7 @@
+mod Pieces
+mod InWindows
 mod Counted
 mod DrillRecords
+mod SentPackets
+mod WholePlay
+mod SentPlayed

@@ -1,10 +1,23 @@
-// Laws over drills.
+// Laws over drills, and over what is sent.
 ghost use Rattle.link_drill.specs.Summary.{CountsAll};
+ghost use Rattle.link_run_laws.specs.SentArePlayed.{SentArePlayed};
 
 /// Each sample of a drill is counted as equal or as marked.
 pub fn drill_counts_all()
     ensures { CountsAll }
 {
+    link_run_delay::samples_are_delayed();
+    link_run_delay::packets_are_those();
+    link_receiver::candidates_are_unique();
+}
+
+/// The packets that are sent, as they are sent, play each sample of the stream unchanged: none of them is stale, lost or outside its
+/// window.
+pub fn sent_are_played()
+    ensures { SentArePlayed }
+{
+    plan_checker::bits_have_one_sample();
+    roe_mappers::parts_are_given_back();
     link_run_delay::samples_are_delayed();
     link_run_delay::packets_are_those();
     link_receiver::candidates_are_unique();

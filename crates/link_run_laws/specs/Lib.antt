@@ -1,0 +1,2 @@
+pub mod SentRecords
+pub mod SentArePlayed
