@@ -5,3 +5,10 @@ mod DrillRecords
 mod SentPackets
 mod WholePlay
 mod SentPlayed
+mod ReadLines
+mod ReadHeaders
+mod ReadCaptures
+mod SentLines
+mod SentOrder
+mod PlayedText
+mod SentReplayed

@@ -1,2 +1,3 @@
 pub mod SentRecords
 pub mod SentArePlayed
+pub mod SentAreReplayed
