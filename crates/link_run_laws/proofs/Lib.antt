@@ -12,3 +12,4 @@ mod SentLines
 mod SentOrder
 mod PlayedText
 mod SentReplayed
+mod SendReplayed

@@ -83,8 +83,8 @@ module _ (law : PartsAreGivenBack) (arrives : ManagementArrives) (p : Plan) (hea
 
   -- ---- the run
 
-  pub whole_text : replay_text p header records ≡ whole_replay p h σ
-  whole_text =
+  pub plays_all : replay_text p header records ≡ whole_replay p h σ
+  plays_all =
       let end = ticks_of_run p h in
       let ticks = flat_map-same (tick_text p h header.announce records) (tick_lines p h σ) 0 end (λ t from below. text_is t (omega (arith, below))) in
       let flows =

@@ -8,11 +8,11 @@ use Rattle.link_base.specs.Record.{Record}
 use Rattle.link_run_capture.specs.Written.{header_text}
 use Rattle.link_run_capture.specs.declared.header.Header.{Header}
 use Rattle.link_run_send.specs.SentText.{flow_text, last_tick, opening_at, packets_text, text_between, tick_text}
+use Rattle.link_run_send.specs.WholeText.{whole_text}
 use Rattle.link_run_send.specs.declared.run_output.Output.TheVariants.{Packets}
 use Rattle.link_sender.specs.Stream.{Stream}
 use Rattle.link_text.specs.Printed.{ended}
 use Rattle.plan_checker.specs.Run.{ticks_of_run}
-use Rattle.link_run_laws.specs.SentAreReplayed.{sent_capture}
 use Rattle.link_run_laws.specs.SentRecords.{flow_records, sent_records, tick_records}
 use Rattle.link_run_laws.proofs.ReadCaptures.{line_of}
 use Rattle.link_run_laws.proofs.SentPackets.{record_of}
@@ -57,7 +57,7 @@ module _ (p : Plan) (h : ℕ) (σ : Stream) where
       ∙ ap (λ n. flat_map (tick_text Packets p h σ) (range_with_len 0 n)) all
 
 pub capture_lines : (p : Plan) (header : Header) (σ : Stream)
-    → sent_capture p header σ ≡ flat_map ended (header_text header ∷ (map line_of (sent_records p header.run_ticks σ) ++ codes "end" ∷ []))
+    → whole_text Packets p header σ ≡ flat_map ended (header_text header ∷ (map line_of (sent_records p header.run_ticks σ) ++ codes "end" ∷ []))
 capture_lines p header σ =
     let h = header.run_ticks in
     let records = sent_records p h σ in

@@ -1,21 +1,19 @@
 -- The records that are sent stand in the order of their ticks, and are not too many for a capture.
-use Rattle.std.proofs.Common.{◌≡◌, ◌==◌, ℕ, zero, suc, ◌+◌, ◌*◌, ◌<◌, ◌≤◌, List, [], ◌∷◌, ◌++◌, length, All, cond, count_by, sum_by, inl, inr, refl, ◌∙◌, arith}
-use Rattle.std.specs.Prelude.{filter}
+use Rattle.std.proofs.Common.{◌≡◌, ℕ, zero, suc, ◌+◌, ◌*◌, ◌≤◌, List, [], ◌∷◌, ◌++◌, length, get_or, All, sum_by, refl, ap, ◌∙◌, arith}
 use Rattle.std.specs.List.{flat_map, range_with_len}
-use Rattle.std.proofs.lemmas.Bool.{cases_eq, cond-false, cond-true, eq-eqb, ne_eqb}
 use Rattle.std.proofs.lemmas.List.{length-map}
 use Rattle.std.proofs.lemmas.List.Concat.{length-flat_map}
-use Rattle.std.proofs.lemmas.List.Elements.{All-head, All-map, All-tail, All-weaker}
+use Rattle.std.proofs.lemmas.List.Elements.{All-head, All-map, All-tail}
 use Rattle.std.proofs.lemmas.List.FromFn.{length-range_with_len}
-use Rattle.std.proofs.lemmas.List.Sums.{length-filter, sum_by-cons}
+use Rattle.std.proofs.lemmas.List.Sums.{sum_by-cons}
+use Rattle.std.proofs.lemmas.Option.{slice_get-get_or}
 use Rattle.carrier_plan.specs.declared.plan.Flow.{Flow}
 use Rattle.carrier_plan.specs.declared.plan.Plan.{Plan}
 use Rattle.link_base.specs.Record.{Record}
-use Rattle.link_base.specs.Window.{last_frame}
 use Rattle.link_receiver.proofs.Windows.{longest_block-short}
+use Rattle.link_run_send.specs.RunText.{PacketsAreWrittenOnce}
 use Rattle.link_run_send.specs.SentText.{opening_at}
 use Rattle.link_sender.specs.Stream.{Stream}
-use Rattle.plan_checker.specs.Flows.{HasPayload}
 use Rattle.plan_checker.specs.Packets.{run_packets}
 use Rattle.plan_checker.specs.Rules.{IsGood}
 use Rattle.plan_checker.specs.Rules.Rule.{Counts, PayloadSize}
@@ -24,7 +22,7 @@ use Rattle.sample_bits.proofs.RateLemmas.{div_ceil-le}
 use Rattle.link_run_laws.specs.SentRecords.{flow_records, sent_records, tick_records}
 use Rattle.link_run_laws.proofs.Pieces.{All-pieces}
 use Rattle.link_run_laws.proofs.ReadCaptures.{IsOrdered}
-use Rattle.link_run_laws.proofs.SentPackets.{opens_at, record_of}
+use Rattle.link_run_laws.proofs.SentPackets.{record_of}
 
 -- ---- by tick
 
@@ -63,40 +61,6 @@ sum_below g most xs (y ∷ ys) all =
     let both = sum_split (λ x. g x y) (λ x. sum_by (g x) ys) (λ x. sum_by (g x) (y ∷ ys)) (λ x. sum_by-cons (g x) y ys) xs in
     omega (arith, first, rest, both)
 
--- ---- each number is met at one tick at most
-
-abbrev meets : ℕ → ℕ → ℕ
-meets x t = cond (x == t) 1 0
-
-no_more : (x a n : ℕ) → x < a → sum_by (meets x) (range_with_len a n) ≡ 0
-no_more x a zero past = refl
-no_more x a (suc n) past =
-    sum_by-cons (meets x) a (range_with_len (a + 1) n)
-    ∙ omega (arith, cond-false {A = ℕ} (x == a) 1 0 (ne_eqb x a (λ same. omega (arith, same, past))), no_more x (a + 1) n (omega (arith, past)))
-
-once : (x a n : ℕ) → sum_by (meets x) (range_with_len a n) ≤ 1
-once x a zero = omega arith
-once x a (suc n) =
-    let step = sum_by-cons (meets x) a (range_with_len (a + 1) n) in
-    elim (cases_eq x a) [
-      | inl here ↦
-          let first = cond-true {A = ℕ} (x == a) 1 0 (eq-eqb x a here) in
-          let rest = no_more x (a + 1) n (omega (arith, here)) in
-          omega (arith, step, first, rest)
-      | inr other ↦
-          let first = cond-false {A = ℕ} (x == a) 1 0 (ne_eqb x a other) in
-          let rest = once x (a + 1) n in
-          omega (arith, step, first, rest)
-    ]
-
-met_once : (at : ℕ → ℕ) (end : ℕ) (is : List ℕ) → sum_by (λ t. count_by (λ i. at i == t) is) (range_with_len 0 end) ≤ length is
-met_once at end [] = let none = sum_none (λ t. count_by (λ i. at i == t) []) (λ t. refl) (range_with_len 0 end) in omega (arith, none)
-met_once at end (i ∷ is) =
-    let ticks = range_with_len 0 end in
-    let both =
-    sum_split (meets (at i)) (λ t. count_by (λ i. at i == t) is) (λ t. count_by (λ i. at i == t) (i ∷ is)) (λ t. sum_by-cons (λ i. cond (at i == t) 1 0) i is) ticks in
-    omega (arith, both, once (at i) 0 end, met_once at end is)
-
 -- ---- the records
 
 sum_same : {X : Type 0} (a b : X → ℕ) → ((x : X) → a x ≡ b x) → (xs : List X) → sum_by a xs ≡ sum_by b xs
@@ -115,36 +79,34 @@ module _ (p : Plan) (h : ℕ) (σ : Stream) where
   sent_ordered = ordered_ticks (tick_records p h σ) at_tick 0 (ticks_of_run p h)
 
   abbrev count_at : ℕ → Flow → ℕ
-  count_at t f = count_by (opens_at p h σ t f) (range_with_len 0 (run_packets p f h))
+  count_at t f = length (opening_at p h f t)
 
   count_of_flow : (t : ℕ) (f : Flow) → length (flow_records p h σ t f) ≡ count_at t f
-  unfolding flow_records opening_at
-  count_of_flow t f =
-      let all = range_with_len 0 (run_packets p f h) in
-      length-map (filter (opens_at p h σ t f) all) (record_of p h σ t f) ∙ length-filter (opens_at p h σ t f) all
+  unfolding flow_records
+  count_of_flow t f = length-map (opening_at p h f t) (record_of p h σ t f)
 
   count_of_tick : (t : ℕ) → length (tick_records p h σ t) ≡ sum_by (count_at t) p.flows
   unfolding tick_records
   count_of_tick t = length-flat_map (flow_records p h σ t) p.flows ∙ sum_same (λ f. length (flow_records p h σ t f)) (count_at t) (count_of_flow t) p.flows
 
-  few_of_flow : IsGood p → All (λ f. sum_by (λ t. count_at t f) (range_with_len 0 (ticks_of_run p h)) ≤ h + longest_block p) p.flows
-  few_of_flow good =
-      All-weaker (HasPayload p) (λ f. sum_by (λ t. count_at t f) (range_with_len 0 (ticks_of_run p h)) ≤ h + longest_block p)
-      (λ f payload.
+  few_of_flow : PacketsAreWrittenOnce → IsGood p → All (λ f. sum_by (λ t. count_at t f) (range_with_len 0 (ticks_of_run p h)) ≤ h + longest_block p) p.flows
+  few_of_flow written good k d lt =
+      let f = get_or p.flows k d in
       let run = h + longest_block p in
-      let some = payload.some_frames in
-      let met = met_once (λ i. last_frame f.frames i + f.lmin) (ticks_of_run p h) (range_with_len 0 (run_packets p f h)) in
+      let ticks = range_with_len 0 (ticks_of_run p h) in
+      let some = (good PayloadSize k lt d).some_frames in
+      let all = length-flat_map (opening_at p h f) ticks in
+      let once = ap length (written p h k f good (slice_get-get_or p.flows k d lt)) in
       let times : run ≤ run * f.frames = grind arith in
-      omega (arith, met, length-range_with_len 0 (run_packets p f h), div_ceil-le run f.frames run some times))
-      p.flows (λ k d lt. good PayloadSize k lt d)
+      omega (arith, all, once, length-range_with_len 0 (run_packets p f h), div_ceil-le run f.frames run some times)
 
-  pub sent_few : IsGood p → length (sent_records p h σ) ≤ 8 * (h + 96)
+  pub sent_few : PacketsAreWrittenOnce → IsGood p → length (sent_records p h σ) ≤ 8 * (h + 96)
   unfolding sent_records
-  sent_few good =
+  sent_few written good =
       let ticks = range_with_len 0 (ticks_of_run p h) in
       let counts = good Counts 0 (omega arith) in
       let all = length-flat_map (tick_records p h σ) ticks ∙ sum_same (λ t. length (tick_records p h σ t)) (λ t. sum_by (count_at t) p.flows) count_of_tick ticks in
-      let most = sum_below count_at (h + longest_block p) ticks p.flows (few_of_flow good) in
+      let most = sum_below count_at (h + longest_block p) ticks p.flows (few_of_flow written good) in
       let short = longest_block-short p good in
       few_by (length p.flows) (h + longest_block p) h (length (flat_map (tick_records p h σ) ticks)) counts.few_flows (omega (arith, short)) (omega (arith, all, most))
     where

@@ -29,7 +29,7 @@ use Rattle.link_run_laws.proofs.InWindows.{IsInWindow}
 use Rattle.link_run_laws.proofs.Pieces.{All-pieces, Contains-below, Contains-map, Contains-passing, Contains-pieces}
 
 module _ (p : Plan) (h : ℕ) (σ : Stream) where
-  abbrev pub opens_at : ℕ → Flow → ℕ → Bool
+  abbrev opens_at : ℕ → Flow → ℕ → Bool
   opens_at t f i = last_frame f.frames i + f.lmin == t
 
   abbrev pub record_of : ℕ → Flow → ℕ → Record

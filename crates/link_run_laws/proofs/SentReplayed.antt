@@ -18,6 +18,7 @@ use Rattle.link_run_feed.specs.Feed.{feed_answer}
 use Rattle.link_run_feed.specs.declared.status.Status.TheVariants.{Done}
 use Rattle.link_run_replay.specs.Replayed.{replay_form}
 use Rattle.link_run_replay.specs.WholeText.{TextIsWhole}
+use Rattle.link_run_send.specs.RunText.{PacketsAreWrittenOnce}
 use Rattle.link_sender.specs.Laws.{PacketsAreDetermined}
 use Rattle.link_sender.specs.Packets.{packet_fields}
 use Rattle.link_sender.specs.Stream.{IsStream, Stream}
@@ -33,7 +34,7 @@ use Rattle.roe_mappers.specs.Laws.{PartsAreGivenBack}
 use Rattle.link_run_laws.specs.SentArePlayed.{IsSent, SentArePlayed}
 use Rattle.link_run_laws.specs.SentAreReplayed.{SentAreReplayed}
 use Rattle.link_run_laws.specs.SentRecords.{sent_records}
-use Rattle.link_run_laws.proofs.PlayedText.{whole_text}
+use Rattle.link_run_laws.proofs.PlayedText.{plays_all}
 use Rattle.link_run_laws.proofs.ReadCaptures.{is_replayed}
 use Rattle.link_run_laws.proofs.ReadHeaders.{IsRun, header_back, is_run, run_one, run_two}
 use Rattle.link_run_laws.proofs.ReadLines.{IsBytes-octets, IsWritten}
@@ -102,15 +103,15 @@ short_run : (width : ℕ) (header : Header) → IsRun width header → IsShortRu
 short_run width header (run_one n low is) = subst IsShortRun is (record { short = omega (arith, low); few = omega (arith, low) })
 short_run width header (run_two n hdlc pointer low hdlc_low pointer_low allowed is) = subst IsShortRun is (record { short = low; few = omega (arith, low) })
 
-pub SentAreReplayed-holds : PartsAreGivenBack → PacketsExist → PacketsAreThose → PacketsAreDetermined → ManagementArrives → TextIsWhole → SentArePlayed → SentAreReplayed
-SentAreReplayed-holds law exist those determined arrives whole played p header σ good plain octets begins stream announced =
+pub SentAreReplayed-holds : PartsAreGivenBack → PacketsExist → PacketsAreThose → PacketsAreDetermined → ManagementArrives → PacketsAreWrittenOnce → TextIsWhole → SentArePlayed → SentAreReplayed
+SentAreReplayed-holds law exist those determined arrives once whole played p header σ good plain octets begins stream announced =
     let h = header.run_ticks in
     let records = sent_records p h σ in
     let run = short_run (word_size p.option) header (is_run (word_size p.option) header begins) in
     let back = header_back (word_size p.option) header begins in
     let written = all_written exist those determined p h σ good plain octets stream run.short in
-    let few : length records ≤ most_records header.version = omega (arith, sent_few p h σ good, run.few) in
+    let few : length records ≤ most_records header.version = omega (arith, sent_few p h σ once good, run.few) in
     let made : List ℕ → Answer = λ text. record { status = Done; text = text } in
     ap (feed_answer (replay_form p)) (capture_lines p header σ)
     ∙ is_replayed p header records back written (sent_ordered p h σ) few whole good
-    ∙ ap made (whole_text law arrives p header σ records good plain stream announced (played p h σ good plain stream))
+    ∙ ap made (plays_all law arrives p header σ records good plain stream announced (played p h σ good plain stream))

@@ -14,7 +14,7 @@ use Rattle.link_run_feed.specs.Feed.{feed_answer}
 use Rattle.link_run_feed.specs.declared.status.Status.TheVariants.{Done}
 use Rattle.link_run_replay.specs.EntryLines.{entry_lines, flow_line}
 use Rattle.link_run_replay.specs.Replayed.{replay_form}
-use Rattle.link_run_send.specs.SentText.{first_line, last_tick, text_between}
+use Rattle.link_run_send.specs.WholeText.{whole_text}
 use Rattle.link_run_send.specs.declared.run_output.Output.TheVariants.{Packets}
 use Rattle.link_sender.specs.Stream.{IsStream, Stream}
 use Rattle.link_text.specs.Printed.{ended, lines_below}
@@ -24,18 +24,9 @@ use Rattle.plan_checker.specs.Run.{ticks_of_run}
 use Rattle.plan_checker.specs.WordSize.{word_size}
 use Rattle.link_run_laws.specs.SentArePlayed.{tick_entries}
 
--- ---- what is sent
-
 -- a file of samples can begin so, in words of so many octets
 abbrev pub BeginsSamples : ℕ → Header → Type 0
 BeginsSamples width header = (line : List ℕ) × (run_header Samples width line ≡ Some header)
-
--- the capture that is printed of a stream
-abbrev pub sent_capture : Plan → Header → Stream → List ℕ
-sent_capture p header σ =
-    (first_line Packets p header ++ text_between Packets p header.run_ticks σ 0 (last_tick Packets p header.run_ticks)) ++ ended (codes "end")
-
--- ---- what is replayed
 
 -- the lines of the management frames that are whole with the frame that is played at tick t, if there is one
 abbrev pub arriving_at : Plan → Stream → ℕ → List ℕ
@@ -61,4 +52,4 @@ abbrev pub SentAreReplayed : Type 0
 SentAreReplayed =
     (p : Plan) (header : Header) (σ : Stream) → IsGood p → IsPlain p → AddressesAreOctets p → BeginsSamples (word_size p.option) header
     → IsStream p header.run_ticks σ → σ.announcement ≡ header.announce
-    → feed_answer (replay_form p) (sent_capture p header σ) ≡ record { status = Done; text = whole_replay p header.run_ticks σ }
+    → feed_answer (replay_form p) (whole_text Packets p header σ) ≡ record { status = Done; text = whole_replay p header.run_ticks σ }

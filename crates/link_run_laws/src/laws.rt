@@ -1,5 +1,6 @@
 // Laws over drills, and over what is sent.
 ghost use Rattle.link_drill.specs.Summary.{CountsAll};
+ghost use Rattle.link_run_laws.specs.SendIsReplayed.{SendIsReplayed};
 ghost use Rattle.link_run_laws.specs.SentArePlayed.{SentArePlayed};
 ghost use Rattle.link_run_laws.specs.SentAreReplayed.{SentAreReplayed};
 
@@ -34,6 +35,18 @@ pub fn sent_are_replayed()
     link_run_delay::packets_exist();
     link_run_delay::packets_are_those();
     link_run_delay::management_arrives();
+    link_run_send::packets_are_written_once();
     link_run_replay::text_is_whole();
     sent_are_played();
+}
+
+/// A call of `replay` by the plan of a call of `send` that is done, of the capture that this wrote, is answered so.
+pub fn send_is_replayed()
+    ensures { SendIsReplayed }
+{
+    plan_checker::verdicts_are_determined();
+    link_run_delay::read_plans_are_plain();
+    link_run_delay::read_addresses_are_octets();
+    link_run_send::text_is_whole();
+    sent_are_replayed();
 }

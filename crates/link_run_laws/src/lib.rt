@@ -3,4 +3,4 @@
 
 mod laws;
 
-pub use laws::{drill_counts_all, sent_are_played, sent_are_replayed};
+pub use laws::{drill_counts_all, send_is_replayed, sent_are_played, sent_are_replayed};
