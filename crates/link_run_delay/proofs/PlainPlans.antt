@@ -1,5 +1,6 @@
 -- The addresses of a plan that is read from text.
 use Rattle.std.proofs.Common.{◌≡◌, ℕ, suc, Bool, true, false, List, [], ◌∷◌, length, All, Option, Some, None, Result, Ok, Err, cond, nat_lt, sym, refl, ap, ◌∙◌, subst, arith}
+use Rattle.std.proofs.lemmas.List.{get_or_default}
 use Rattle.std.proofs.lemmas.List.Elements.{All-nil, All-cons}
 use Rattle.std.specs.Str.{is_utf8}
 use Rattle.hex.specs.Hex.{decode_sized}
@@ -19,6 +20,7 @@ use Rattle.carrier_plan.specs.declared.plan.Plan.{Plan}
 use Rattle.carrier_plan.specs.Keys.{address_of, address_spelled, flow_fields, key_of, top_fields}
 use Rattle.carrier_plan.specs.PlanOf.{◌>>=◌, address_at, all_from, carriers_of, ends_in, flow_from, flow_in, flow_of, flows_of, has_extra, line_in, load_in, number_at, of_flow, plan_in, plan_of, plan_of_document, timing_in, value_at}
 use Rattle.link_run_delay.specs.Delay.{IsPlain}
+use Rattle.link_run_delay.specs.Existing.{AddressesAreOctets, AreOctets}
 
 same_ok : {A : Type 0} (x y : A) → ◌≡◌ {A = Result A PlanText} (Ok x) (Ok y) → x ≡ y
 same_ok x y e = cc
@@ -42,28 +44,32 @@ spelled_ok : (spot : Spot) (r : Result (List ℕ) FromHexError) (octets : List �
 spelled_ok spot (Ok x) octets h = ap Ok (same_ok x octets h)
 spelled_ok spot (Err e) octets h = cc
 
-length-address : (spot : Spot) (text octets : List ℕ) → address_spelled spot (decode_sized text 6) ≡ Ok octets → length octets ≡ 6
-length-address spot text octets h =
+-- an address has six octets
+record IsAddress (octets : List ℕ) : Type 0 where
+  six : length octets ≡ 6
+  small : AreOctets octets
+
+IsAddress-spelled : (spot : Spot) (text octets : List ℕ) → address_spelled spot (decode_sized text 6) ≡ Ok octets → IsAddress octets
+IsAddress-spelled spot text octets h =
     let decoded = spelled_ok spot (decode_sized text 6) octets h in
     let digits = decode_sized-ok text 6 octets decoded in
     let pairs = decode_of-ok text octets (sym (decode_sized-twice text 6 digits) ∙ decoded) in
-    omega (arith, pairs.2)
+    record { six = omega (arith, pairs.2); small = λ k d lt. omega (arith, pairs.3 k, get_or_default octets k d 0 lt) }
 
-length-address_of : (spot : Spot) (d : Data) (octets : List ℕ) → address_of spot d ≡ Ok octets → length octets ≡ 6
-length-address_of spot (string text) octets h = length-address spot text octets h
-length-address_of spot _ octets h = cc
+IsAddress-address_of : (spot : Spot) (d : Data) (octets : List ℕ) → address_of spot d ≡ Ok octets → IsAddress octets
+IsAddress-address_of spot (string text) octets h = IsAddress-spelled spot text octets h
+IsAddress-address_of spot _ octets h = cc
 
-length-address_at : (keys : Members) (spot : Spot) (octets : List ℕ) → address_at keys spot ≡ Ok octets → length octets ≡ 6
-length-address_at keys spot octets h =
+IsAddress-address_at : (keys : Members) (spot : Spot) (octets : List ℕ) → address_at keys spot ≡ Ok octets → IsAddress octets
+IsAddress-address_at keys spot octets h =
     let found = bind_ok (value_at keys spot) (address_of spot) octets h in
-    length-address_of spot found.0 octets found.2
+    IsAddress-address_of spot found.0 octets found.2
 
 -- ---- a flow
 
--- the addresses have six octets
 record AreAddresses (dst src : List ℕ) : Type 0 where
-  dst_six : length dst ≡ 6
-  src_six : length src ≡ 6
+  dst_is : IsAddress dst
+  src_is : IsAddress src
 
 AreAddresses-ends_in : (i : ℕ) (keys : Members) (ends : ℕ × List ℕ × List ℕ) → ends_in i keys ≡ Ok ends → AreAddresses ends.1 ends.2
 unfolding ends_in
@@ -75,8 +81,8 @@ AreAddresses-ends_in i keys ends h =
     let src = bind_ok from (λ src. Ok (id.0, dst.0, src)) ends dst.2 in
     let same : ◌≡◌ {A = ℕ × List ℕ × List ℕ} (id.0, dst.0, src.0) ends = same_ok (id.0, dst.0, src.0) ends src.2 in
     let addresses : AreAddresses dst.0 src.0 = record {
-      dst_six = length-address_at keys (of_flow i field.Dst) dst.0 dst.1;
-      src_six = length-address_at keys (of_flow i field.Src) src.0 src.1;
+      dst_is = IsAddress-address_at keys (of_flow i field.Dst) dst.0 dst.1;
+      src_is = IsAddress-address_at keys (of_flow i field.Src) src.0 src.1;
     } in
     subst (λ (e : ℕ × List ℕ × List ℕ). AreAddresses e.1 e.2) {x = (id.0, dst.0, src.0)} same addresses
 
@@ -147,4 +153,8 @@ All-plan_of octets p h =
 pub IsPlain-plan_of : (octets : List ℕ) (p : Plan) → plan_of octets ≡ Ok p → IsPlain p
 IsPlain-plan_of octets p h =
     let addresses = All-plan_of octets p h in
-    record { dst = λ k d lt. (addresses k d lt).dst_six; src = λ k d lt. (addresses k d lt).src_six }
+    record { dst = λ k d lt. (addresses k d lt).dst_is.six; src = λ k d lt. (addresses k d lt).src_is.six }
+
+-- and its addresses consist of octets
+pub AddressesAreOctets-plan_of : (octets : List ℕ) (p : Plan) → plan_of octets ≡ Ok p → AddressesAreOctets p
+AddressesAreOctets-plan_of octets p h = let addresses = All-plan_of octets p h in λ k d lt. ((addresses k d lt).dst_is.small, (addresses k d lt).src_is.small)

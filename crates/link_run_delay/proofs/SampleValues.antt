@@ -82,7 +82,8 @@ module _ (law : PartsAreGivenBack) (p : Plan) (h : ℕ) (σ : Stream) (records :
       let back = given_back law p σ f n part good listed (part_carries payload e) in
       absurd (both_ways (is_some (bad_symbol p.mode n part)) (ap is_some back.good) missed)
 
-  lost_if_missed : n / f.frames < run_packets p f h → is_missed p f h records n ≡ true → IsLost p σ f records (n / f.frames)
+  -- a frame that is missed is of a packet that is lost
+  pub lost_if_missed : n / f.frames < run_packets p f h → is_missed p f h records n ≡ true → IsLost p σ f records (n / f.frames)
   unfolding part_of_frame
   lost_if_missed within missed = lost_by within (received p f h records (n / f.frames)) refl missed
 

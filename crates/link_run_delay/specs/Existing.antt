@@ -1,5 +1,6 @@
 -- That there are octets of each packet of a stream, and which these are. This is the project's own.
-use Rattle.std.specs.Prelude.{◌<◌, ℕ, List, All, Contains}
+use Rattle.std.specs.Prelude.{◌≡◌, ◌<◌, ℕ, List, All, Contains, Ok}
+use Rattle.carrier_plan.specs.PlanOf.{plan_of}
 use Rattle.carrier_plan.specs.declared.plan.Flow.{Flow}
 use Rattle.carrier_plan.specs.declared.plan.Plan.{Plan}
 use Rattle.link_sender.specs.Frames.{IsFrame}
@@ -12,6 +13,14 @@ use Rattle.plan_checker.specs.Rules.{IsGood}
 -- the numbers are octets
 abbrev pub AreOctets : List ℕ → Type 0
 AreOctets numbers = All (λ n. n < 256) numbers
+
+-- the addresses of each flow consist of octets
+abbrev pub AddressesAreOctets : Plan → Type 0
+AddressesAreOctets p = All (λ (f : Flow). AreOctets f.dst × AreOctets f.src) p.flows
+
+-- so do those of a plan that is read from text
+abbrev pub ReadAddressesAreOctets : Type 0
+ReadAddressesAreOctets = (octets : List ℕ) (p : Plan) → plan_of octets ≡ Ok p → AddressesAreOctets p
 
 -- There is packet i of the flow, and it consists of octets where the flow's addresses do.
 pub record HasPacket (p : Plan) (σ : Stream) (f : Flow) (i : ℕ) : Type 0 where

@@ -2,7 +2,7 @@
 ghost use Rattle.link_run_delay.specs.ChannelsArePrefixes.{ChannelsArePrefixes};
 ghost use Rattle.link_run_delay.specs.ControlIsSent.{ControlIsSent};
 ghost use Rattle.link_run_delay.specs.Delay.{ReadPlansArePlain, SamplesAreDelayed};
-ghost use Rattle.link_run_delay.specs.Existing.{FramesAreThose, PacketsAreThose, PacketsExist};
+ghost use Rattle.link_run_delay.specs.Existing.{FramesAreThose, PacketsAreThose, PacketsExist, ReadAddressesAreOctets};
 ghost use Rattle.link_run_delay.specs.ManagementArrives.{ManagementArrives};
 ghost use Rattle.link_run_delay.specs.PrefixesAreRead.{PrefixesAreRead};
 
@@ -17,6 +17,11 @@ pub fn samples_are_delayed()
 /// A plan that is read from text has addresses of six octets.
 pub fn read_plans_are_plain()
     ensures { ReadPlansArePlain }
+{}
+
+/// These addresses consist of octets.
+pub fn read_addresses_are_octets()
+    ensures { ReadAddressesAreOctets }
 {}
 
 /// There are octets of each packet of a stream, whatever the stream, of every plan that meets the rules.

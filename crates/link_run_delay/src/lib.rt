@@ -7,5 +7,6 @@ mod laws;
 
 pub use laws::{
     channels_are_prefixes, control_is_sent, frames_are_those, management_arrives,
-    packets_are_those, packets_exist, prefixes_are_read, read_plans_are_plain, samples_are_delayed,
+    packets_are_those, packets_exist, prefixes_are_read, read_addresses_are_octets,
+    read_plans_are_plain, samples_are_delayed,
 };

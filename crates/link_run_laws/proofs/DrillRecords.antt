@@ -1,29 +1,24 @@
 -- The records of a drill are packets of its stream in their windows, so each of its samples leaves with its value or marked.
-use Rattle.std.proofs.Common.{◌≡◌, ℕ, ◌+◌, ◌*◌, ◌/◌, List, [], ◌∷◌, All, Contains, length, get_or, eqb, Option, Some, None, IfSome, refl, sym, ◌∙◌, subst, arith}
+use Rattle.std.proofs.Common.{◌≡◌, ℕ, ◌+◌, ◌*◌, ◌/◌, List, [], All, Contains, length, get_or, eqb, Option, Some, None, IfSome, refl, sym, subst, arith}
 use Rattle.std.proofs.lemmas.Bool.{and_from, eq-eqb}
-use Rattle.std.proofs.lemmas.List.Elements.{All-cons, All-contains, All-nil, All-weaker}
+use Rattle.std.proofs.lemmas.List.Elements.{All-cons, All-nil, All-weaker}
 use Rattle.std.proofs.lemmas.Nat.{mod_below}
-use Rattle.std.proofs.lemmas.Option.{same_Some}
 use Rattle.carrier_plan.specs.declared.plan.Carrier.{Carrier}
 use Rattle.carrier_plan.specs.declared.plan.Flow.{Flow}
 use Rattle.carrier_plan.specs.declared.plan.Plan.{Plan}
 use Rattle.link_base.specs.Record.{Record}
 use Rattle.link_receiver.specs.Laws.{CandidatesAreUnique}
 use Rattle.link_receiver.specs.Output.{all_entries}
-use Rattle.link_receiver.specs.Records.{IsOfFlow, arrival_of, window_of}
 use Rattle.link_receiver.specs.declared.entry.Entry.{Entry}
 use Rattle.link_sender.specs.Packets.{IsPacket}
 use Rattle.link_sender.specs.Stream.{IsStream, Stream, sample_at}
 use Rattle.link_sender.specs.Whole.{packet_of}
 use Rattle.plan_checker.specs.Run.{IsDue, ticks_of_run}
 use Rattle.plan_checker.specs.WordSize.{word_size}
-use Rattle.playout_buffer.specs.Candidate.{IsCandidate}
-use Rattle.playout_buffer.specs.Received.{Arrival}
 use Rattle.sample_bits.specs.Samples.{IsWithin}
 use Rattle.sample_bits.specs.declared.iq.RawIq.{RawIq}
-use Rattle.link_run_delay.specs.Delay.{AreFresh, AreUnaltered, IsOfStream, IsPlain, IsValue, PlaysStream, SamplesAreDelayed}
+use Rattle.link_run_delay.specs.Delay.{IsPlain, IsValue, PlaysStream, SamplesAreDelayed}
 use Rattle.link_run_delay.specs.Existing.{PacketsAreThose}
-use Rattle.link_run_delay.proofs.ReceivedPackets.{arrival, arrival_of-packet}
 use Rattle.link_drill.specs.Arrivals.{arrivals_below}
 use Rattle.link_drill.specs.Draws.{draw, drawn_samples}
 use Rattle.link_drill.specs.DrillPlan.{drill_carrier, drill_flow, drill_plan}
@@ -37,9 +32,7 @@ use Rattle.link_drill.proofs.PlanFacts.{IsDrillPlan, as_many_carriers, carrier_r
 use Rattle.link_drill.proofs.Ranges.{any_in_range}
 use Rattle.link_drill.proofs.RunFacts.{ComesInTime, drill_stream-is, records_in_time}
 use Rattle.link_run_laws.proofs.Counted.{HasValue, all_counted}
-
-the_one : {X : Type 0} (x y : X) → Contains (x ∷ []) y → x ≡ y
-the_one x y here = All-contains (λ z. x ≡ z) (x ∷ []) y (All-cons (λ z. x ≡ z) x [] refl (All-nil (λ z. x ≡ z))) here
+use Rattle.link_run_laws.proofs.InWindows.{IsInWindow, fresh, unaltered}
 
 module _ (delayed : SamplesAreDelayed) (those : PacketsAreThose) (unique : CandidatesAreUnique) (p : Plan) (Y : ℕ) (is : IsDrillPlan p Y) (drawn : List RawIq)
     (many : length drawn ≡ 4 * (256 * Y)) (widths : All (IsWithin 15) drawn) (number first : ℕ) where
@@ -69,9 +62,6 @@ module _ (delayed : SamplesAreDelayed) (those : PacketsAreThose) (unique : Candi
   listed : Contains p.flows f
   listed = subst (λ (fs : List Flow). Contains fs f) (sym is.flows) (0, omega arith, refl)
 
-  the_flow : (g : Flow) → Contains p.flows g → f ≡ g
-  the_flow g here = the_one f g (subst (λ (fs : List Flow). Contains fs g) is.flows here)
-
   plain : IsPlain p
   plain = record {
     dst = subst (λ (fs : List Flow). All (λ (x : Flow). length x.dst ≡ 6) fs) (sym is.flows) (All-cons (λ (x : Flow). length x.dst ≡ 6) f [] refl (All-nil _));
@@ -85,36 +75,24 @@ module _ (delayed : SamplesAreDelayed) (those : PacketsAreThose) (unique : Candi
       subst (IsPacket p σ f comes.number) (sym comes.octets)
       (those p 256 σ f comes.number is.good stream listed (omega (arith, packets-are p Y is, comes.in_run)))
 
-  unaltered : AreUnaltered p 256 σ records
-  unaltered =
-      All-weaker Comes (λ r. (g : Flow) → Contains p.flows g → IsOfFlow p g r.octets → IsOfStream p 256 σ g r.octets)
-      (λ r comes g here of_flow.
-      subst (λ (x : Flow). IsOfStream p 256 σ x r.octets) (the_flow g here) (comes.number, omega (arith, packets-are p Y is, comes.in_run), record_packet r comes))
-      records in_time
-
-  -- a record is taken for the packet that it is
-  fresh_in : (r : Record) → Comes r → (i : ℕ) (a : Arrival) → arrival_of p f r ≡ Some a → IsCandidate (window_of p f 256) a.tick a.seq i → IsPacket p σ f i r.octets
-  fresh_in r comes i a arrives candidate =
-      let k = comes.number in
-      let packet = record_packet r comes in
-      let its = arrival p 256 σ f is.good plain listed r.tick k packet.payload in
-      let same : its ≡ a = same_Some its a (sym (arrival_of-packet p 256 σ f is.good plain listed k r packet) ∙ arrives) in
-      let own : IsCandidate (window_of p f 256) its.tick its.seq k = record { within = omega (arith, packets-are p Y is, comes.in_run); number = refl; arrives = comes.open_then } in
-      let also : IsCandidate (window_of p f 256) a.tick a.seq k = subst (λ (x : Arrival). IsCandidate (window_of p f 256) x.tick x.seq k) same own in
-      subst (λ n. IsPacket p σ f n r.octets) (unique p f 256 a.tick a.seq k i is.good listed also candidate) packet
-
-  fresh : AreFresh p 256 σ records
-  fresh =
-      All-weaker Comes
-      (λ r. (g : Flow) (i : ℕ) (a : Arrival) → Contains p.flows g → arrival_of p g r ≡ Some a → IsCandidate (window_of p g 256) a.tick a.seq i → IsPacket p σ g i r.octets)
-      (λ r comes g i a here.
-      subst (λ (x : Flow). arrival_of p x r ≡ Some a → IsCandidate (window_of p x 256) a.tick a.seq i → IsPacket p σ x i r.octets) (the_flow g here) (fresh_in r comes i a))
+  in_windows : All (IsInWindow p 256 σ) records
+  in_windows =
+      All-weaker Comes (IsInWindow p 256 σ)
+      (λ r comes. record {
+        flow = f;
+        listed = listed;
+        number = comes.number;
+        in_run = omega (arith, packets-are p Y is, comes.in_run);
+        open_then = comes.open_then;
+        packet = record_packet r comes;
+      })
       records in_time
 
   -- ---- the entries
 
   plays : PlaysStream p 256 σ records entries
-  plays = delayed p 256 σ records is.good plain stream unaltered fresh
+  plays =
+      delayed p 256 σ records is.good plain stream (unaltered p 256 σ is.good plain records in_windows) (fresh p 256 σ is.good plain unique records in_windows)
 
   value_by : (c j : ℕ) (carrier : Carrier) (value : Option RawIq) → IsValue p σ f records c carrier j value → IfSome value (λ v. v ≡ sample_at σ c j)
   value_by c j carrier None is_lost = tt

@@ -1,2 +1,15 @@
+mod Pieces
+mod InWindows
 mod Counted
 mod DrillRecords
+mod SentPackets
+mod WholePlay
+mod SentPlayed
+mod ReadLines
+mod ReadHeaders
+mod ReadCaptures
+mod SentLines
+mod SentOrder
+mod PlayedText
+mod SentReplayed
+mod SendReplayed

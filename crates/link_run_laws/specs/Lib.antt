@@ -1,0 +1,4 @@
+pub mod SentRecords
+pub mod SentArePlayed
+pub mod SentAreReplayed
+pub mod SendIsReplayed
