@@ -10,3 +10,5 @@ pub mod Refills
 pub mod Gathering
 pub mod GatheredLines
 pub mod PrintedLines
+pub mod ShortPairs
+pub mod DigitLanes
