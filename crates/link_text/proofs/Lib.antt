@@ -12,3 +12,4 @@ pub mod GatheredLines
 pub mod PrintedLines
 pub mod ShortPairs
 pub mod DigitLanes
+pub mod NearFeeds

@@ -1,5 +1,5 @@
 -- Short numbers in a line, by the places where they stand.
-use Rattle.std.proofs.Common.{◌≡◌, ◌≢◌, ℕ, zero, suc, ◌+◌, ◌-◌, ◌*◌, ◌%◌, ◌^◌, ◌<◌, ◌≤◌, Bool, true, false, ◌&&◌, cond, eqb, add-zero, List, [], ◌∷◌, ◌++◌, length, take, drop, get_or, Some, refl, sym, ap, ◌∙◌, inl, inr, arith, ℤ, pos, w32, FitsSigned}
+use Rattle.std.proofs.Common.{◌≡◌, ◌≢◌, ℕ, zero, suc, ◌+◌, ◌-◌, ◌*◌, ◌%◌, ◌^◌, ◌<◌, ◌≤◌, Bool, true, false, cond, eqb, add-zero, List, [], ◌∷◌, ◌++◌, length, take, drop, get_or, Some, refl, sym, ap, ◌∙◌, inl, inr, arith, ℤ, pos, w32, FitsSigned}
 use mir.Val.{bool_byte}
 use Rattle.std.specs.Prelude.{slice_index, slice_range, neg_ℤ}
 use Rattle.std.specs.Char.{is_ascii_digit}
@@ -9,9 +9,9 @@ use Rattle.std.specs.Option.{option_map}
 use Rattle.std.specs.Str.{all_ascii_digits}
 use Rattle.std.specs.Str.Parse.{digits_value, AllDigits}
 use Rattle.std.proofs.lemmas.Str.Parse.{digits_value_short}
-use Rattle.std.proofs.lemmas.Bool.{cases_eq, eqb-true, eq-eqb, ne_eqb, true≢false}
+use Rattle.std.proofs.lemmas.Bool.{cases_eq, eqb-true, eq-eqb, ne_eqb}
 use Rattle.std.proofs.lemmas.Grind.{common_steps}
-use Rattle.std.proofs.lemmas.List.{get_or-take, get_or-drop, length-take-le, length-drop, take-take, drop-take}
+use Rattle.std.proofs.lemmas.List.{get_or-take, get_or-drop, length-take-le, length-drop, drop-take}
 use Rattle.std.proofs.lemmas.List.Sums.{position_or_len_is}
 use Rattle.core.proofs.dec2flt.Rows.{AllDigits-digits_len}
 use Rattle.link_text.specs.Decimals.{negated, signed_value}
@@ -109,9 +109,9 @@ position_is line place within is = rw is (grind (arith, common_steps))
 
 -- a number with its sign
 pub number_is : (text : List ℕ) (from n end more : ℕ) (minus : Bool) (z : ℤ) → FitsSigned w32 z → eqb (slice_index text from) 45 ≡ minus → more ≡ bool_byte minus
-    → IsDecimalAt text (from + more) n end → minus && eqb n 0 ≡ false → z ≡ cond minus (neg_ℤ (pos n)) (pos n) → IsNumberAt text from z end
+    → IsDecimalAt text (from + more) n end → (minus ≡ true → n ≢ 0) → z ≡ cond minus (neg_ℤ (pos n)) (pos n) → IsNumberAt text from z end
 number_is text from n end more true z fits is one h other value =
-    rw value (minus_at text from n end (rw value at fits) (eqb-true _ _ is) (rw one at h) (λ zero. true≢false (sym (eq-eqb n 0 zero) ∙ other)))
+    rw value (minus_at text from n end (rw value at fits) (eqb-true _ _ is) (rw one at h) (other refl))
 number_is text from n end more false z fits is none h other value =
     rw value (plain_at text from n end (rw value at fits) (rw (none, add-zero) at h))
 
@@ -124,18 +124,19 @@ take_front line front rest is = rw is (taken line)
 
 -- the fields of a line whose octets stand at the front of some room
 pub pair_of : (line room : List ℕ) (i q : ℤ) (end last : ℕ) → take (length line) room ≡ line
-    → IsNumberAt room 0 i end → slice_index room end ≡ 32 → IsNumberAt room (end + 1) q last → last ≡ length line → IsPair line i q
+    → IsNumberAt line 0 i end → slice_index line end ≡ 32 → IsNumberAt room (end + 1) q last → last ≡ length line → IsPair line i q
 pair_of line room i q end last front first space second all =
     let early : end < length line = omega (arith, second.some, all) in
-    let same = λ (k : ℕ) (within : k < length line). ap (λ l. get_or l k 0) (sym front) ∙ get_or-take (length line) room k 0 within in
-    let no_space = λ (k : ℕ) (before : k < end). ne_eqb (get_or line k 0) 32 (λ is. first.no_space k (omega arith) before (sym (same k (omega arith)) ∙ is)) in
-    let here : is_space (get_or line end 0) ≡ true = eq-eqb (get_or line end 0) 32 (same end early ∙ space) in
+    let no_space = λ (k : ℕ) (before : k < end). ne_eqb (get_or line k 0) 32 (first.no_space k (omega arith) before) in
+    let here : is_space (get_or line end 0) ≡ true = eq-eqb (get_or line end 0) 32 space in
     let place = position_is line end early (position_or_len_is is_space line end 0 (omega arith) no_space (λ _. here)) in
     let upto : end ≡ end - 0 = omega arith in
-    let front_is : take end line ≡ slice_range room 0 end = ap (take end) (sym front) ∙ take-take end (length line) room (omega arith) ∙ ap (λ n. take n room) upto in
+    let front_is : take end line ≡ slice_range line 0 end = ap (λ n. take n line) upto in
     let whole : end + 1 + (length line - (end + 1)) ≡ length line = omega (arith, second.some, all) in
     let back_is : drop (end + 1) line ≡ slice_range room (end + 1) last =
-    ap (drop (end + 1)) (sym front ∙ ap (λ n. take n room) (sym whole)) ∙ drop-take (end + 1) (length line - (end + 1)) room ∙ ap (λ n. slice_range room (end + 1) n) (sym all) in
+    ap (drop (end + 1)) (sym front ∙ ap (λ n. take n room) (sym whole))
+    ∙ drop-take (end + 1) (length line - (end + 1)) room
+    ∙ ap (λ n. slice_range room (end + 1) n) (sym all) in
     record {
       first = take end line;
       second = drop (end + 1) line;

@@ -1,7 +1,8 @@
 // Hexadecimal digits to octets and octets to digits, many at once: a digit a lane.
-ghost use Rattle.std.specs.Prelude.{◌≡◌, ℕ, ◌+◌, ◌*◌, ◌/◌, ◌%◌, ◌<◌, ◌≤◌, ◌↔◌, ◌++◌, IsTrue, List, Ok, length, map, slice_index};
+ghost use Rattle.std.specs.Prelude.{◌≡◌, ℕ, ◌+◌, ◌*◌, ◌/◌, ◌%◌, ◌<◌, ◌≤◌, ◌↔◌, ◌++◌, IfSome, IsTrue, List, Ok, length, map, slice_index};
 ghost use Rattle.std.specs.List.{AllPass};
 ghost use Rattle.hex.specs.Hex.{decode_of, encode_lower, is_hex_digit};
+ghost use Rattle.link_text.specs.LineBuffer.{IsFirstFeed};
 ghost use Rattle.link_text.specs.Lanes.{value_or_255, pairs_of, octet_at, DigitsBetween, digit_of, digit_at, turns};
 
 use std::simd::prelude::*;
@@ -120,6 +121,23 @@ fn put_digits(octets: &[u8], at: usize, out: &mut [u8])
     let (first, second) = woven(digits(high_values(octets)), digits(low_values(octets)));
     first.copy_to_slice(&mut out[2 * at..]);
     second.copy_to_slice(&mut out[2 * at + 32..]);
+}
+
+/// The place of the first line feed among 32 octets and more, if it is among the first 32.
+#[inline(always)]
+pub(crate) fn near_feed(octets: &[u8]) -> Option<usize>
+    requires { 32 ≤ length octets.now }
+    ensures { IfSome result (λ place. IsFirstFeed octets.now place × (place < 32)) }
+{
+    let feeds = u8x32::from_slice(octets)
+        .simd_eq(u8x32::splat(b'\n'))
+        .to_bitmask();
+    let place = feeds.trailing_zeros() as usize;
+    if feeds != 0 && place < OCTETS {
+        Some(place)
+    } else {
+        None
+    }
 }
 
 /// Puts the digits of octets, letters in lower case.

@@ -48,7 +48,8 @@ fn number_at(text: &[u8], from: usize) -> Option<(i32, usize)>
 {
     let minus = text[from] == b'-';
     let (size, end) = decimal_at(text, from + usize::from(minus))?;
-    if minus & (size == 0) {
+    // Few sizes are 0, so that this test is foretold, as one of the sign would not be.
+    if size == 0 && minus {
         return None;
     }
     Some((with_sign(minus, size), end))
@@ -59,15 +60,16 @@ fn number_at(text: &[u8], from: usize) -> Option<(i32, usize)>
 pub fn short_pair(line: &[u8]) -> Option<(i32, i32)>
     ensures { IfSome result (λ pair. IsPair line.now pair.0 pair.1) }
 {
-    if line.len() > LONGEST {
+    if line.len() < 2 || line.len() > LONGEST {
+        return None;
+    }
+    // The first number is read where it stands, so that it need not wait until the line is copied.
+    let (first, end) = number_at(line, 0)?;
+    if end == line.len() || line[end] != b' ' {
         return None;
     }
     let mut room = [0; ROOM];
     room[..line.len()].copy_from_slice(line);
-    let (first, end) = number_at(&room, 0)?;
-    if end > LONGEST || room[end] != b' ' {
-        return None;
-    }
     let (second, last) = number_at(&room, end + 1)?;
     if last == line.len() {
         Some((first, second))

@@ -8,4 +8,4 @@ returns-then-last-line c =
     rw (to_z-of_z w32 c.in_ok-first.first c.in_ok-first.ensures.fits, to_z-of_z w32 c.in_ok-second.second c.in_ok-second.ensures.fits)
     (pair_of c.args.line.now _ c.in_ok-first.first c.in_ok-second.second c.in_ok-first.end c.in_ok-second.last
     (take_front c.args.line.now c.copy_from_slice.new.self _ c.copy_from_slice.ensures.after)
-    c.in_ok-first.ensures c.if-room-end-ne32.false c.in_ok-second.ensures c.if-last-line.true)
+    c.in_ok-first.ensures c.if-line-end-ne32.false c.in_ok-second.ensures c.if-last-line.true)
