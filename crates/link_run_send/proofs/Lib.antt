@@ -15,3 +15,4 @@ pub mod SentSymbols
 pub mod SettledTexts
 pub mod TakenSamples
 pub mod VersionLines
+pub mod FrameWords

@@ -6,3 +6,4 @@ pub mod SendsRun
 pub mod ComesNext
 pub mod Sends
 pub mod Send
+pub mod FrameWord
