@@ -27,3 +27,4 @@ pub mod TakenSamples
 pub mod VersionLines
 pub mod WholeTexts
 pub mod WrittenOnce
+pub mod FrameWords

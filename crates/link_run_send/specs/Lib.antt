@@ -10,3 +10,4 @@ pub mod Send
 pub mod RunText
 pub mod SendsFile
 pub mod WholeText
+pub mod FrameWord

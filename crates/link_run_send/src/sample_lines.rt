@@ -1,5 +1,5 @@
 // The lines of a file of samples, taken one after another.
-ghost use Rattle.std.specs.Prelude.{◌≡◌, ◌+◌, ◌*◌, ◌<◌, ◌≤◌, ◌^◌, [], All, length, take, slice_index, Ok, Err, IfOk, IfErr, OnOk, OnErr};
+ghost use Rattle.std.specs.Prelude.{◌≡◌, ◌+◌, ◌*◌, ◌<◌, ◌≤◌, ◌^◌, [], All, length, take, slice_index, Ok, Err, IfOk, IfErr, OnOk, OnErr, false};
 ghost use Rattle.control_words.specs.Announcement.{IsWithinTable};
 ghost use Rattle.link_base.specs.Faults.{HasCause};
 ghost use Rattle.link_run_feed.specs.FeedCalls.{BreaksOffAt, IsReadAs};
@@ -12,6 +12,7 @@ ghost use Rattle.plan_checker.specs.Run.{samples_before, samples_due};
 ghost use Rattle.plan_checker.specs.WordSize.{word_size};
 ghost use Rattle.sample_bits.specs.Samples.{IsWithin};
 ghost use Rattle.link_run_send.specs.ComesNext.{ComesLater, HandedTo, IsCounted};
+ghost use Rattle.link_run_send.specs.FrameWord.{NamesNoFrame};
 ghost use Rattle.link_run_send.specs.SendsRun.{SendsRun};
 ghost use Rattle.link_run_send.specs.SentText.{text_between};
 ghost use Rattle.link_run_send.specs.Sent.{Sent, begun, by_version, fast_line, sample_line, slow_line, width_of, word_and_rest};
@@ -111,6 +112,16 @@ fn word_and_rest(line: &[u8]) -> (&[u8], &[u8])
         Some(fields) => fields,
         None => (line, b""),
     }
+}
+
+// Whether a line may be that of a frame. The line of a sample is none: it begins with a digit or a minus sign, and need not
+// be searched for the word.
+#[inline(always)]
+#[tactic(auto, using(crate::proofs::FrameWords::names_no_frame))]
+fn may_be_frame(line: &[u8]) -> bool
+    ensures { result ≡ false → NamesNoFrame line.now }
+{
+    !line.is_empty() && (line[0] == b's' || line[0] == b'f')
 }
 
 impl SampleRun {
@@ -280,6 +291,9 @@ impl SampleRun {
         match self.header.version {
             Version::One => self.read_sample_line(line, text, out),
             Version::Two => {
+                if !may_be_frame(line) {
+                    return self.read_sample_line(line, text, out);
+                }
                 let (word, digits) = word_and_rest(line);
                 if word == b"slow".as_slice() {
                     return Ok(self.read_slow(digits));

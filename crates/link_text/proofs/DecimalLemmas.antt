@@ -14,7 +14,7 @@ use Rattle.std.proofs.lemmas.Int.Digits.{digits_value_more}
 use Rattle.std.proofs.lemmas.Fmt.{digits_decimal, digits_value-decimal, decimal-digits_value, decimal_nonempty, first_decimal, decimal_digit}
 use Rattle.link_text.specs.Decimals.{is_canonical, decimal_value, negated, signed_value}
 
-own : IsNumeralModel (λ ds. all_ascii_digits ds ≡ true) (digits_value 10)
+pub own : IsNumeralModel (λ ds. all_ascii_digits ds ≡ true) (digits_value 10)
 own = numerals_by_value (λ ds. all_ascii_digits ds ≡ true) tells_all_ascii_digits
 
 -- a canonical decimal by its parts
@@ -61,7 +61,7 @@ decimal-decimal_value text n h e =
     sym same ∙ ap decimal parts.1
 
 -- each octet of a text of digits is one
-digit_of_digits : (text : List ℕ) (i : ℕ) → all_ascii_digits text ≡ true → i < length text → is_ascii_digit (slice_index text i) ≡ true
+pub digit_of_digits : (text : List ℕ) (i : ℕ) → all_ascii_digits text ≡ true → i < length text → is_ascii_digit (slice_index text i) ≡ true
 digit_of_digits [] i digits within = absurd (omega arith)
 digit_of_digits (c ∷ cs) zero digits within = (and_parts _ _ digits).0
 digit_of_digits (c ∷ cs) (suc i) digits within = digit_of_digits cs i (and_parts _ _ digits).1 (omega arith)

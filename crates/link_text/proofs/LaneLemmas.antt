@@ -28,7 +28,7 @@ by_lanes : (or sub add lt : ℕ → ℕ → ℕ) (v : List ℕ) → lane_values 
 by_lanes or sub add lt [] = refl
 by_lanes or sub add lt (x ∷ xs) = ap (λ more. lane_value or sub add lt x ∷ more) (by_lanes or sub add lt xs)
 
-same_map : (f g : ℕ → ℕ) → agree_below (λ x. eqb (f x) (g x)) (λ _. true) 256 ≡ true → (v : List ℕ) → Each1 (Fits w8) v → map f v ≡ map g v
+pub same_map : (f g : ℕ → ℕ) → agree_below (λ x. eqb (f x) (g x)) (λ _. true) 256 ≡ true → (v : List ℕ) → Each1 (Fits w8) v → map f v ≡ map g v
 same_map f g h [] fits = refl
 same_map f g h (x ∷ xs) fits =
     let e : f x ≡ g x = eqb-true (f x) (g x) (agree_below_at (λ x. eqb (f x) (g x)) (λ _. true) 256 x h fits.0.fits) in

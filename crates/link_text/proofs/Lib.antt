@@ -10,3 +10,6 @@ pub mod Refills
 pub mod Gathering
 pub mod GatheredLines
 pub mod PrintedLines
+pub mod ShortPairs
+pub mod DigitLanes
+pub mod NearFeeds

@@ -1,5 +1,5 @@
 -- Hexadecimal digits and octets place by place.
-use Rattle.std.specs.Prelude.{ℕ, ◌+◌, ◌*◌, ◌%◌, ◌<◌, ◌≤◌, IsTrue, List, map, slice_index, unwrap_or}
+use Rattle.std.specs.Prelude.{ℕ, ◌+◌, ◌*◌, ◌/◌, ◌%◌, ◌<◌, ◌≤◌, ◌==◌, nat_lt, if◌then◌else◌, IsTrue, List, map, slice_index, unwrap_or}
 use Rattle.std.specs.List.{range_with_len}
 use Rattle.hex.specs.Hex.{hex_digit_value, is_hex_digit}
 
@@ -22,3 +22,15 @@ octet_at text k = joined (value_or_255 (slice_index text (2 * k))) (value_or_255
 -- the text has digits at these places
 abbrev pub DigitsBetween : List ℕ → ℕ → ℕ → Type 0
 DigitsBetween text start end = (j : ℕ) → start ≤ j → j < end → IsTrue (is_hex_digit (slice_index text j))
+
+-- the digit of a value below 16
+abbrev pub digit_of : ℕ → ℕ
+digit_of v = if nat_lt v 10 then (v + 48) % 256 else (v + 87) % 256
+
+-- the digit at a place of the text of octets, the one of the higher half first
+abbrev pub digit_at : List ℕ → ℕ → ℕ
+digit_at octets k = digit_of (if k % 2 == 0 then slice_index octets (k / 2) / 16 else slice_index octets (k / 2) % 16)
+
+-- 32 lanes of two vectors in turn, from a place on
+abbrev pub turns : List ℕ → ℕ → List ℕ
+turns lanes from = map (λ k. slice_index lanes (k / 2 + 32 * (k % 2))) (range_with_len from 32)

@@ -7,3 +7,4 @@ pub mod Gathered
 pub mod Fields
 pub mod Printed
 pub mod Laid
+pub mod ShortPair

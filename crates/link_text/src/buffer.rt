@@ -1,10 +1,11 @@
 // The buffer of a reader of lines.
-ghost use Rattle.std.specs.Prelude.{◌≡◌, ◌≢◌, ℕ, List, [], ◌∷◌, ◌++◌, ◌+◌, ◌-◌, ◌*◌, ◌<◌, ◌≤◌, length, take, drop, slice_range, IsTrue, IfOk, OnErr, IfSome, IfNone, vec_len};
+ghost use Rattle.std.specs.Prelude.{◌≡◌, ◌≢◌, ℕ, List, [], ◌∷◌, ◌++◌, ◌+◌, ◌-◌, ◌*◌, ◌<◌, ◌≤◌, length, take, drop, slice_range, IsTrue, IfOk, OnErr, IfSome, IfNone, vec_len, false};
 ghost use Rattle.link_base.specs.Faults.{HasCause};
 ghost use Rattle.link_base.specs.Shelf.{SameFiles};
 ghost use Rattle.link_text.specs.Lines.{longest, HasNoFeed, Took, ShowsEnding, HasNoFault, ReadFailed};
-ghost use Rattle.link_text.specs.LineBuffer.{IsFirstFeed, Cuts, Advanced};
+ghost use Rattle.link_text.specs.LineBuffer.{IsFirstFeed, TakesLine, Cuts, Advanced};
 
+use crate::lanes;
 use crate::lines::Ending;
 use link_base::{Failed, NoMemory, Shelf};
 use memchr::memchr;
@@ -152,8 +153,44 @@ impl LineBuffer {
         Ok(count)
     }
 
+    // Takes the line off that is at hand, where it is short.
+    #[inline(always)]
+    fn take_near(&mut self) -> bool
+        ensures near { IsTrue result → TakesLine self.old.rest self.new }
+        ensures far { result ≡ false → self.new ≡ self.old }
+        ensures fits { length self.new.line + length self.new.rest ≤ 8192 }
+    {
+        let rest = self.rest();
+        if rest.len() < lanes::OCTETS {
+            return false;
+        }
+        match lanes::near_feed(rest) {
+            Some(place) => {
+                self.give(place + 1);
+                true
+            }
+            None => false,
+        }
+    }
+
     /// Takes the next line off, and reads until it is at hand.
+    #[inline(always)]
     pub(crate) fn advance<H: Shelf>(&mut self, shelf: &mut H) -> Option<Ending>
+        ensures advanced { Advanced self.old self.new (H.shown shelf.old) (H.shown shelf.new) result }
+        ensures shows { ShowsEnding (H.shown shelf.old) (H.shown shelf.new) result }
+        ensures files { SameFiles (H.shown shelf.old) (H.shown shelf.new) }
+        ensures fits { length self.new.line + length self.new.rest ≤ 8192 }
+    {
+        if self.take_near() {
+            return None;
+        }
+        self.read_on(shelf)
+    }
+
+    // The same of a line that is long or not yet at hand.
+    #[cold]
+    #[inline(never)]
+    fn read_on<H: Shelf>(&mut self, shelf: &mut H) -> Option<Ending>
         ensures advanced { Advanced self.old self.new (H.shown shelf.old) (H.shown shelf.new) result }
         ensures shows { ShowsEnding (H.shown shelf.old) (H.shown shelf.new) result }
         ensures files { SameFiles (H.shown shelf.old) (H.shown shelf.new) }

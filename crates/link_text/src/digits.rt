@@ -40,6 +40,18 @@ pub fn octets(text: &[u8], out: &mut [u8]) -> Option<usize>
     decode(text, &mut out[..half]).then_some(half)
 }
 
+/// Puts the hexadecimal digits of octets, letters in lower case.
+pub(crate) fn encode(octets: &[u8], out: &mut [u8])
+    requires { length out.old ≡ 2 * length octets.now }
+    ensures { out.new ≡ encode_lower octets.now }
+{
+    if octets.len() < lanes::OCTETS {
+        let _ = hex::encode_to_slice(octets, out);
+    } else {
+        lanes::encode(octets, out);
+    }
+}
+
 // Appends the digit of a number below 16.
 #[inline(always)]
 fn put_digit(out: &mut ArrayVec<u8, 4096>, value: u8)

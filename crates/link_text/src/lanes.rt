@@ -1,8 +1,9 @@
-// Hexadecimal digits to octets, many digits at once: a digit a lane.
-ghost use Rattle.std.specs.Prelude.{◌≡◌, ℕ, ◌+◌, ◌*◌, ◌<◌, ◌≤◌, ◌↔◌, ◌++◌, IsTrue, List, Ok, length, map, slice_index};
+// Hexadecimal digits to octets and octets to digits, many at once: a digit a lane.
+ghost use Rattle.std.specs.Prelude.{◌≡◌, ℕ, ◌+◌, ◌*◌, ◌/◌, ◌%◌, ◌<◌, ◌≤◌, ◌↔◌, ◌++◌, IfSome, IsTrue, List, Ok, length, map, slice_index};
 ghost use Rattle.std.specs.List.{AllPass};
-ghost use Rattle.hex.specs.Hex.{decode_of, is_hex_digit};
-ghost use Rattle.link_text.specs.Lanes.{value_or_255, pairs_of, octet_at, DigitsBetween};
+ghost use Rattle.hex.specs.Hex.{decode_of, encode_lower, is_hex_digit};
+ghost use Rattle.link_text.specs.LineBuffer.{IsFirstFeed};
+ghost use Rattle.link_text.specs.Lanes.{value_or_255, pairs_of, octet_at, DigitsBetween, digit_of, digit_at, turns};
 
 use std::simd::prelude::*;
 
@@ -69,4 +70,85 @@ pub(crate) fn decode(text: &[u8], out: &mut [u8]) -> bool
     }
     // The last octets are put where they end with the text: some of them a second time.
     put_octets(text, out.len() - OCTETS, out)
+}
+
+// The value of each octet's first digit.
+#[inline(always)]
+fn high_values(octets: u8x32) -> u8x32
+    ensures { result ≡ map (λ octet. octet / 16) octets }
+{
+    octets / u8x32::splat(16)
+}
+
+// The value of each octet's second digit.
+#[inline(always)]
+fn low_values(octets: u8x32) -> u8x32
+    ensures { result ≡ map (λ octet. octet % 16) octets }
+{
+    octets % u8x32::splat(16)
+}
+
+// The digit of each value.
+#[inline(always)]
+fn digits(values: u8x32) -> u8x32
+    ensures { result ≡ map digit_of values }
+{
+    values.simd_lt(u8x32::splat(10)).select(
+        values + u8x32::splat(b'0'),
+        values + u8x32::splat(b'a' - 10),
+    )
+}
+
+// A lane of the one and a lane of the other in turn.
+#[inline(always)]
+fn woven(first: u8x32, second: u8x32) -> (u8x32, u8x32)
+    ensures front { result.0 ≡ turns (first ++ second) 0 }
+    ensures back { result.1 ≡ turns (first ++ second) 32 }
+{
+    first.interleave(second)
+}
+
+// Puts the digits of 32 octets, those from `at` on.
+#[inline(always)]
+fn put_digits(octets: &[u8], at: usize, out: &mut [u8])
+    requires source { at + 32 ≤ length octets.now }
+    requires room { 2 * at + 64 ≤ length out.old }
+    ensures len { length out.new ≡ length out.old }
+    ensures digits { (k : ℕ) → 2 * at ≤ k → k < 2 * at + 64 → slice_index out.new k ≡ digit_at octets.now k }
+    ensures before { (k : ℕ) → k < 2 * at → slice_index out.new k ≡ slice_index out.old k }
+{
+    let octets = u8x32::from_slice(&octets[at..]);
+    let (first, second) = woven(digits(high_values(octets)), digits(low_values(octets)));
+    first.copy_to_slice(&mut out[2 * at..]);
+    second.copy_to_slice(&mut out[2 * at + 32..]);
+}
+
+/// The place of the first line feed among 32 octets and more, if it is among the first 32.
+#[inline(always)]
+pub(crate) fn near_feed(octets: &[u8]) -> Option<usize>
+    requires { 32 ≤ length octets.now }
+    ensures { IfSome result (λ place. IsFirstFeed octets.now place × (place < 32)) }
+{
+    let feeds = u8x32::from_slice(octets)
+        .simd_eq(u8x32::splat(b'\n'))
+        .to_bitmask();
+    let place = feeds.trailing_zeros() as usize;
+    if feeds != 0 && place < OCTETS {
+        Some(place)
+    } else {
+        None
+    }
+}
+
+/// Puts the digits of octets, letters in lower case.
+pub(crate) fn encode(octets: &[u8], out: &mut [u8])
+    requires some { OCTETS ≤ length octets.now }
+    requires room { length out.old ≡ 2 * length octets.now }
+    ensures text { out.new ≡ encode_lower octets.now }
+{
+    for step in 0..(octets.len() - 1) / OCTETS {
+        put_digits(octets, OCTETS * step, out);
+    }
+    // The last digits are put where they end with the text: some of them a second time.
+    put_digits(octets, octets.len() - OCTETS, out);
 }

@@ -76,6 +76,7 @@ impl LineReader {
     }
 
     /// Lends the next line. After any other answer the same comes again, and nothing is read. It takes no memory.
+    #[inline(always)]
     pub fn next<H: Shelf>(&mut self, shelf: &mut H) -> Line<'_>
         ensures* keeps { sem 𝓛 (Rests the_row self.entry (λ kept. Keeps self.old kept (H.shown shelf.old) (H.shown shelf.new) result)) }
         ensures again { IfSome self.old.ended (λ ending. (ending_of result ≡ Some ending) × (shelf.new ≡ shelf.old)) }

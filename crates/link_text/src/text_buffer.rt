@@ -6,6 +6,7 @@ ghost use Rattle.link_base.specs.Faults.{HasCause};
 ghost use Rattle.link_base.specs.Sink.{Appends, AppendsFront};
 ghost use Rattle.link_text.specs.Gathered.{Gathers, text_capacity};
 
+use crate::digits::encode;
 use crate::laid::Lay;
 use itoa::Buffer;
 use link_base::{Failed, Sink, put_all};
@@ -105,7 +106,7 @@ impl TextBuffer {
         ensures long { length self.new ≡ length self.old + 2 * length octets.now }
     {
         let end = self.len + 2 * octets.len();
-        let _ = hex::encode_to_slice(octets, &mut self.octets[self.len..end]);
+        encode(octets, &mut self.octets[self.len..end]);
         self.len = end;
     }
 

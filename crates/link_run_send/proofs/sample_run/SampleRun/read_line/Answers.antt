@@ -1,8 +1,9 @@
-use Rattle.std.proofs.Common.{sym, ap, ◌∙◌, subst}
+use Rattle.std.proofs.Common.{refl, sym, ap, ◌∙◌, subst}
 use Rattle.link_run_capture.specs.declared.header.Header.{Header}
 use Rattle.link_run_feed.specs.FeedCalls.{BreaksOffAt, IsReadAs}
 use Rattle.link_run_send.specs.Sends.{GoesOn}
-use Rattle.link_run_send.specs.Sent.{fast_line, slow_line}
+use Rattle.link_text.specs.Fields.{at_first_space}
+use Rattle.link_run_send.specs.Sent.{fast_line, slow_line, word_and_rest}
 use Rattle.link_run_send.proofs.HandedOn.{map_err}
 use Rattle.link_run_send.proofs.VersionLines.{line_fast, line_one, line_sample, line_slow, queued_read}
 use Rattle.link_run_send.proofs.sample_run.SampleRun.read_line.Goals as goal
@@ -50,3 +51,14 @@ returns-else-eq-2-clause-fails g c =
     subst (λ line. BreaksOffAt line c.args.text.now (g.K.Sink.taken c.args.out.now) (g.K.Sink.taken c.read_sample_line-in-Two.new.out))
     (sym (line_sample s c.args.line.now version (word, rest) c.word_and_rest.ensures.fields no_slow no_fast)) (fails s between))
     c.read_sample_line-in-Two.ensures.fails
+
+pub returns-then-not-may_be_frame-clause-fails : goal.returns-then-not-may_be_frame-clause-fails
+returns-then-not-may_be_frame-clause-fails g c =
+    map_err c.read_sample_line-then-not-may_be_frame.result
+    (λ fails s between.
+    let line = c.args.line.now in
+    let version = ap (λ (h : Header). h.version) between.keeps.header ∙ c.in-Two.is in
+    let no_frame = c.may_be_frame.ensures c.if-not-may_be_frame.true in
+    subst (λ read. BreaksOffAt read c.args.text.now (g.K.Sink.taken c.args.out.now) (g.K.Sink.taken c.read_sample_line-then-not-may_be_frame.new.out))
+    (sym (line_sample s line version (word_and_rest line (at_first_space line)) refl no_frame.no_slow no_frame.no_fast)) (fails s between))
+    c.read_sample_line-then-not-may_be_frame.ensures.fails

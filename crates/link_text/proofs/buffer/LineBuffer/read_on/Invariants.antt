@@ -1,6 +1,6 @@
 use Rattle.std.proofs.Common.{◌-◌, length}
 use Rattle.link_text.proofs.Advances.{Looks}
-use Rattle.link_text.proofs.buffer.LineBuffer.advance.Given as goal
+use Rattle.link_text.proofs.buffer.LineBuffer.read_on.Given as goal
 
 abbrev pub invariant-loop-self : goal.invariant-loop-self
 invariant-loop-self g l = Looks l.initial.self l.self (g.H.Shelf.shown l.initial.shelf) (g.H.Shelf.shown l.shelf) l.searched

@@ -2,7 +2,7 @@ use Rattle.std.proofs.Common.{sym, subst, Some}
 use Rattle.link_text.specs.LineBuffer.{Advanced}
 use Rattle.link_text.specs.declared.lines.Ending.TheVariants.{TooLong}
 use Rattle.link_text.proofs.Advances.{too_long}
-use Rattle.link_text.proofs.buffer.LineBuffer.advance.Goals as goal
+use Rattle.link_text.proofs.buffer.LineBuffer.read_on.Goals as goal
 
 pub returns-in-TooLong-clause-advanced : goal.returns-in-TooLong-clause-advanced
 returns-in-TooLong-clause-advanced g c =

@@ -1,0 +1,10 @@
+use Rattle.std.proofs.Common.{arith}
+use Rattle.std.proofs.lemmas.Simd.{zip2_splat}
+use Rattle.link_text.proofs.DigitLanes.{each_beside}
+use Rattle.link_text.proofs.lanes.low_values.Goals as goal
+
+pub nonzero_rem-result : goal.nonzero_rem-result
+nonzero_rem-result c = each_beside _ 16 (λ _. omega arith) 32 c.args.octets
+
+pub returns : goal.returns
+returns c = zip2_splat _ c.args.octets 32 16 c.fits-octets.0
