@@ -115,7 +115,7 @@ fn explain_line(rt: &impl Eprint, name: &str, line: u64, reason: Reason) -> io::
         Reason::Count => "the file has too few lines or too many",
         Reason::Many => "the file has too many lines, or too many announcements are on their way",
         Reason::Word => {
-            "an event such as `tell 1`, or a frame of a management channel that is announced, before the samples, was expected"
+            "events are such as `tell 1`; frames of a management channel stand before the samples, where the header announces the channel"
         }
         Reason::Long => "a line has at most 4,096 octets",
         Reason::Unended => "the file ends before the line feed after `end`",
