@@ -17,6 +17,9 @@ use Rattle.link_run_plan.proofs.Checks.{checks}
 use Rattle.link_run_replay.specs.WholeText.{ReplaysCapture}
 use Rattle.link_run_replay.proofs.Replays.{replays}
 use Rattle.link_run_replay.specs.RunText.{lines_of_frame, management_lines, words_below}
+use Rattle.link_run_send.specs.SendsFile.{SendsFile}
+use Rattle.link_run_send.specs.declared.run_output.Output.TheVariants.{Packets, Symbols}
+use Rattle.link_run_send.proofs.FilesSent.{FilesAreSent-holds}
 use Rattle.link_run_delay.specs.Delay.{SamplesAreDelayed}
 use Rattle.link_run_delay.specs.ManagementArrives.{ManagementArrives, ManagementIsPrinted, arriving_lines}
 use Rattle.link_run_delay.proofs.PlainPlans.{IsPlain-plan_of}
@@ -76,3 +79,11 @@ module _ (words : List (List ℕ)) (shelf shelf' : Shown) (sink sink' : Taken) (
   plays_words delayed arrives plan capture is told done =
       plays_capture delayed arrives plan capture shelf.held sink sink'
       (replays plan capture shelf shelf' sink sink' status (subst (λ w. Keeps w shelf shelf' sink sink' status) is keeps) told done)
+
+  pub sends_words : (plan samples : List ℕ) → words ≡ codes "send" ∷ plan ∷ samples ∷ [] → IsTrue shelf.tells → status ≡ Done → SendsFile Packets plan samples shelf.held sink sink'
+  sends_words plan samples is told done =
+      FilesAreSent-holds Packets plan samples shelf shelf' sink sink' status (subst (λ w. Keeps w shelf shelf' sink sink' status) is keeps) told done
+
+  pub lines_words : (plan samples : List ℕ) → words ≡ codes "line" ∷ plan ∷ samples ∷ [] → IsTrue shelf.tells → status ≡ Done → SendsFile Symbols plan samples shelf.held sink sink'
+  lines_words plan samples is told done =
+      FilesAreSent-holds Symbols plan samples shelf shelf' sink sink' status (subst (λ w. Keeps w shelf shelf' sink sink' status) is keeps) told done

@@ -3,6 +3,8 @@ ghost use Rattle.std.specs.Prelude.{◌≡◌, ◌≢◌, ◌↔◌, ◌∷◌, 
 ghost use Rattle.link_drill.specs.Course.{drill};
 ghost use Rattle.link_run_feed.specs.Promises.{Promises, IsComplete};
 ghost use Rattle.link_run_plan.specs.ChecksPlan.{ChecksPlan};
+ghost use Rattle.link_run_send.specs.SendsFile.{SendsFile};
+ghost use Rattle.link_run_send.specs.declared.run_output.Output.TheVariants.{Packets, Symbols};
 ghost use Rattle.link_run.specs.Call.{call_of, course_of, reads_feed};
 ghost use Rattle.link_run.specs.CodeForm.{call_shown};
 ghost use Rattle.link_run.specs.Plays.{PlaysCapture};
@@ -33,6 +35,10 @@ pub fn run<H: Shelf, K: Sink>(alloc: Global, words: &[String], shelf: &mut H, ou
         → ChecksPlan plan (H.shown shelf.old).held (K.taken out.old) (K.taken out.new) result }
     ensures replays { (plan capture : List ℕ) → map string_bytes words.now ≡ codes "replay" ∷ plan ∷ capture ∷ [] → IsTrue (H.shown shelf.old).tells
         → result ≡ Status.Done → PlaysCapture plan capture (H.shown shelf.old).held (K.taken out.old) (K.taken out.new) }
+    ensures sends { (plan samples : List ℕ) → map string_bytes words.now ≡ codes "send" ∷ plan ∷ samples ∷ [] → IsTrue (H.shown shelf.old).tells
+        → result ≡ Status.Done → SendsFile Packets plan samples (H.shown shelf.old).held (K.taken out.old) (K.taken out.new) }
+    ensures lines { (plan samples : List ℕ) → map string_bytes words.now ≡ codes "line" ∷ plan ∷ samples ∷ [] → IsTrue (H.shown shelf.old).tells
+        → result ≡ Status.Done → SendsFile Symbols plan samples (H.shown shelf.old).held (K.taken out.old) (K.taken out.new) }
 {
     samples_are_delayed();
     management_arrives();
