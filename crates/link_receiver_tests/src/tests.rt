@@ -315,3 +315,41 @@ fn the_first_reason_why_octets_are_not_taken(rt: HostRuntime) -> Result<(), Fail
     assert_answers(&rt, &mut session, &ALTERED);
     Ok(())
 }
+
+// What is answered to the first octets of packet 1 at tick 1: octets that are fewer than a header, or than it says, are no packet.
+fn answer_to(length: usize) -> Arrive {
+    match length {
+        0..22 => Arrive::Foreign(Foreign::NotRoe(NotRoe::Short { length })),
+        22..38 => Arrive::Foreign(Foreign::NotRoe(NotRoe::Length {
+            said: 16,
+            there: length - 22,
+        })),
+        _ => Arrive::Taken { flow: 0, number: 1 },
+    }
+}
+
+// The octets arrive at tick 1 of a run of one tick.
+fn assert_arrival(
+    rt: &impl Abort,
+    alloc: Global,
+    plan: &Checked,
+    octets: &[u8],
+) -> Result<(), NoMemory> {
+    let mut session = AnySession::begin(alloc, plan, 1)?;
+    assert!(rt; session.now() < plan.ticks(1));
+    session.tick();
+    assert_eq!(rt; session.arrive(octets), answer_to(octets.len()));
+    Ok(())
+}
+
+#[test]
+fn a_packet_that_is_cut_off_is_taken_while_its_payload_is_whole(
+    rt: HostRuntime,
+) -> Result<(), Fail> {
+    let plan = checked(&rt, rt.alloc(), SAMPLE_A_FRAME);
+    let packet = packet_of(1, FIRST);
+    for length in 0..61 {
+        assert_arrival(&rt, rt.alloc(), &plan, &packet[..length])?;
+    }
+    Ok(())
+}
