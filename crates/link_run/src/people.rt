@@ -113,7 +113,9 @@ fn explain_line(rt: &impl Eprint, name: &str, line: u64, reason: Reason) -> io::
         Reason::Order => "the tick is below the one before it",
         Reason::Range => "a value does not fit the bits of its carrier",
         Reason::Count => "the file has too few lines or too many",
-        Reason::Many => "the file has too many lines, or too many announcements are on their way",
+        Reason::Many => {
+            "the file has too many lines, announcements that are on their way, or octets of management frames"
+        }
         Reason::Word => {
             "events are such as `tell 1`; frames of a management channel stand before the samples, where the header announces the channel"
         }

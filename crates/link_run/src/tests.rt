@@ -3,10 +3,12 @@ ghost use Rattle.std.specs.Prelude.{◌<◌};
 
 use crate::run;
 use link_base::{MemShelf, MemSink, NoMemory};
-use link_run_feed::Status;
+use link_run_feed::{Status, code};
 use std::alloc::Global;
 use std::process::Abort;
 use std::test::Fail;
+
+mod sent;
 
 /// Room for every text.
 const AMPLE: usize = 4096;
@@ -127,6 +129,34 @@ fn owned(alloc: Global, words: &[&str]) -> Result<Vec<String>, NoMemory> {
     Ok(owned)
 }
 
+// A shelf with these files, which are read in pieces of so many octets.
+fn shelf_of(alloc: Global, files: &[File], piece: usize) -> Result<MemShelf, NoMemory>
+    requires { 0 < piece }
+{
+    let mut shelf = MemShelf::new(alloc, piece);
+    for file in files {
+        shelf.add(file.name, file.content.as_bytes())?;
+    }
+    Ok(shelf)
+}
+
+/// What a call of these words leaves in so much room, which is written in pieces of so many octets.
+fn answer(
+    alloc: Global,
+    words: &[&str],
+    shelf: &mut MemShelf,
+    room: usize,
+    piece: usize,
+) -> Result<Outcome, NoMemory>
+    requires { 0 < piece }
+{
+    let words = owned(alloc, words)?;
+    let mut out = MemSink::new(alloc, room, piece)?;
+    let status = run(alloc, words.as_slice(), shelf, &mut out);
+    let text = Vec::from_slice(alloc, out.octets())?;
+    Ok(Outcome { status, text })
+}
+
 /// Runs a call with pieces of so many octets, so much room, and one file that fails from an offset on.
 fn run_on(
     alloc: Global,
@@ -137,24 +167,22 @@ fn run_on(
 ) -> Result<Outcome, NoMemory>
     requires { 0 < piece }
 {
-    let words = owned(alloc, call.words)?;
-    let mut shelf = MemShelf::new(alloc, piece);
-    for file in call.files {
-        shelf.add(file.name, file.content.as_bytes())?;
-    }
+    let mut shelf = shelf_of(alloc, call.files, piece)?;
     if let Some((name, offset)) = stop {
         shelf.stop(name, offset)?;
     }
-    let mut out = MemSink::new(alloc, room, piece)?;
-    let status = run(alloc, words.as_slice(), &mut shelf, &mut out);
-    let text = Vec::from_slice(alloc, out.octets())?;
-    Ok(Outcome { status, text })
+    answer(alloc, call.words, &mut shelf, room, piece)
+}
+
+/// How many lines end in the first octets of a file.
+fn whole_lines(file: &File, octets: usize) -> usize {
+    let before = file.content.as_bytes().iter().take(octets);
+    before.filter(|c| **c == b'\n').count()
 }
 
 /// How much of the text stands once the first octets of a file were read.
-fn settled(file: &File, offset: usize) -> usize {
-    let before = file.content.as_bytes().iter().take(offset);
-    let lines = before.filter(|c| **c == b'\n').count();
+fn settled(file: &File, octets: usize) -> usize {
+    let lines = whole_lines(file, octets);
     let counts = file.settled.iter().take(lines.saturating_add(1));
     counts.last().copied().unwrap_or(0)
 }
@@ -224,6 +252,42 @@ fn a_read_fault_leaves_what_is_settled(rt: HostRuntime) -> Result<(), Fail> {
         let outcome = run_on(rt.alloc(), &absent, AMPLE, AMPLE, None)?;
         assert_eq!(rt; outcome.status, Status::ReadFault);
         assert_eq!(rt; outcome.text.len(), 0);
+    }
+    Ok(())
+}
+
+// Cuts the file of a call that is read line by line to its first octets, for each number of them.
+fn cut_everywhere(
+    rt: &impl Abort,
+    alloc: Global,
+    call: &Call<'_>,
+    feed: &File,
+) -> Result<(), Fail> {
+    for octets in 0..feed.content.len() {
+        let mut shelf = shelf_of(alloc, call.files, AMPLE)?;
+        shelf.add(feed.name, &feed.content.as_bytes()[..octets])?;
+        let outcome = answer(alloc, call.words, &mut shelf, AMPLE, AMPLE)?;
+        let stands = settled(feed, octets);
+        assert!(rt; stands <= call.text.len());
+        let line = whole_lines(feed, octets).saturating_add(1);
+        let mut text = Vec::from_slice(alloc, &call.text.as_bytes()[..stands])?;
+        text.extend_from_slice(format!(in alloc; "bad {line} unended\n")?.as_bytes())?;
+        assert_eq!(rt; outcome.text, text, "cut to {octets}");
+        assert_eq!(rt; code(&outcome.status), 4, "cut to {octets}");
+    }
+    Ok(())
+}
+
+#[test]
+fn a_file_that_is_cut_off_leaves_what_is_settled_and_names_the_line(
+    rt: HostRuntime,
+) -> Result<(), Fail> {
+    for call in &CALLS {
+        for file in call.files {
+            if file.name != PLAN.name {
+                cut_everywhere(&rt, rt.alloc(), call, file)?;
+            }
+        }
     }
     Ok(())
 }
