@@ -65,6 +65,15 @@ const ROWS: [Row; 8] = [
     ),
 ];
 
+/// The plan with these parts changed.
+fn changed(alloc: Global, changes: &[(&str, &str)]) -> Result<String, NoMemory> {
+    let mut plan = String::from_str(alloc, PLAN.content)?;
+    for (old, new) in changes {
+        plan = plan.replacen(alloc, *old, *new, 1)?;
+    }
+    Ok(plan)
+}
+
 // Sends the samples by the plan, and replays what is sent.
 fn replayed(alloc: Global, plan: &str, samples: &str) -> Result<Outcome, NoMemory> {
     let mut shelf = MemShelf::new(alloc, AMPLE);
@@ -87,16 +96,20 @@ fn replayed(alloc: Global, plan: &str, samples: &str) -> Result<Outcome, NoMemor
     )
 }
 
+// Compares what is printed of a row.
+fn compare_row(rt: &impl Abort, alloc: Global, row: &Row) -> Result<(), Fail> {
+    let (changes, samples, text) = *row;
+    let plan = changed(alloc, changes)?;
+    let outcome = replayed(alloc, plan.as_str(), samples)?;
+    assert_eq!(rt; outcome.text.as_slice(), text.as_bytes(), "{samples}");
+    assert_eq!(rt; outcome.status, Status::Done, "{samples}");
+    Ok(())
+}
+
 #[test]
 fn what_is_sent_is_replayed(rt: HostRuntime) -> Result<(), Fail> {
-    for (changes, samples, text) in ROWS {
-        let mut plan = String::from_str(rt.alloc(), PLAN.content)?;
-        for (old, new) in changes {
-            plan = plan.replacen(rt.alloc(), *old, *new, 1)?;
-        }
-        let outcome = replayed(rt.alloc(), plan.as_str(), samples)?;
-        assert_eq!(rt; outcome.text.as_slice(), text.as_bytes(), "{samples}");
-        assert_eq!(rt; outcome.status, Status::Done, "{samples}");
+    for row in &ROWS {
+        compare_row(&rt, rt.alloc(), row)?;
     }
     Ok(())
 }
