@@ -2,7 +2,7 @@
 ghost use Rattle.std.specs.Prelude.{◌≡◌, ◌<◌, length};
 ghost use Rattle.plan_checker.specs.Run.{samples_due};
 
-use crate::{AnySender, Range};
+use crate::AnySender;
 use carrier_plan::read;
 use control_words::Announce;
 use link_base::NoMemory;
@@ -112,26 +112,5 @@ fn packets_carry_the_samples_of_the_tick_before(rt: HostRuntime) -> Result<(), F
         let plan = checked(&rt, rt.alloc(), text.as_str());
         send(&rt, rt.alloc(), &plan, first, second)?;
     }
-    Ok(())
-}
-
-#[test]
-fn a_sample_that_is_too_wide_is_named_and_another_may_come_in_its_place(
-    rt: HostRuntime,
-) -> Result<(), Fail> {
-    let plan = checked(&rt, rt.alloc(), PLAN);
-    let mut sender = AnySender::begin_with(rt.alloc(), &plan, 1, ANNOUNCE)?;
-    let value = RawIq { i: 0, q: -129 };
-    let Err(range) = sender.hand_in(0, &[value]) else {
-        panic!(rt; "a sample of more than eight bits is taken")
-    };
-    let named = Range {
-        carrier: 0,
-        number: 0,
-        value,
-    };
-    assert_eq!(rt; range, named);
-    let taken = sender.hand_in(0, &[RawIq { i: 127, q: -128 }]);
-    assert!(rt; taken.is_ok());
     Ok(())
 }
