@@ -10,6 +10,6 @@ pub mod Refills
 pub mod Gathering
 pub mod GatheredLines
 pub mod PrintedLines
-pub mod ShortPairs
+pub mod WordNumbers
 pub mod DigitLanes
 pub mod NearFeeds

@@ -7,4 +7,4 @@ pub mod Gathered
 pub mod Fields
 pub mod Printed
 pub mod Laid
-pub mod ShortPair
+pub mod Pair

@@ -9,7 +9,7 @@ mod lanes;
 mod laws;
 mod lines;
 mod numbers;
-mod short_pairs;
+mod pairs;
 mod text_buffer;
 
 pub use digits::{digits_are_read_back, octets, put_hex};
@@ -18,7 +18,7 @@ pub use laid::Lay;
 pub use laws::{answer_is_exact, answer_is_that_of_the_file, file_is_its_lines};
 pub use lines::{Line, LineReader};
 pub use numbers::{decimal, decimal_is_read_back, put_number, signed, signed_is_read_back};
-pub use short_pairs::short_pair;
+pub use pairs::signed_pair;
 pub use text_buffer::TextBuffer;
 
 #[cfg(test)]

@@ -1,0 +1,12 @@
+-- Two numbers in a line, with one space between them. This is the project's own.
+use Rattle.std.specs.Prelude.{◌≡◌, ℕ, ℤ, List, Some}
+use Rattle.link_text.specs.Decimals.{signed_value}
+use Rattle.link_text.specs.Fields.{at_first_space}
+
+-- A line has two numbers, with one space between them.
+pub record IsPair (line : List ℕ) (i q : ℤ) : Type 0 where
+  pub first : List ℕ
+  pub second : List ℕ
+  pub fields : at_first_space line ≡ Some (first, second)
+  pub first_value : signed_value first ≡ Some i
+  pub second_value : signed_value second ≡ Some q
