@@ -4,6 +4,3 @@
 mod frame;
 
 pub use frame::Frame;
-
-#[cfg(test)]
-mod tests;

@@ -10,6 +10,3 @@ pub use announce::{Announce, BadControl};
 pub use places::{fast_octet, managed_len, slow_octet};
 pub use read::{announce_of, announcement_is_read_back, numbers_of};
 pub use write::control_word;
-
-#[cfg(test)]
-mod tests;

@@ -19,6 +19,3 @@ pub use laws::{
 };
 pub use reader::FastReader;
 pub use writer::FastWriter;
-
-#[cfg(test)]
-mod tests;

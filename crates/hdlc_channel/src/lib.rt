@@ -12,8 +12,6 @@ mod slow_event;
 mod slow_reader;
 mod slow_writer;
 mod stuffing;
-#[cfg(test)]
-mod tests;
 mod unstuffing;
 
 pub use laws::{given_is_read, stream_goes_on, stream_is_read, written_is_read};

@@ -70,22 +70,3 @@ impl Los {
         self.violations >= LOSS || self.lost && !is_clear
     }
 }
-
-#[cfg(test)]
-mod tests {
-    use super::Los;
-
-    #[test]
-    fn sixteen_violations_are_a_loss_until_a_window_has_none(rt: HostRuntime) {
-        let mut los = Los::new();
-        assert!(rt; !los.step(true, 9));
-        assert!(rt; !los.step(false, 6));
-        assert!(rt; !los.step(true, 1));
-        assert!(rt; los.step(false, 15));
-        assert!(rt; los.step(true, 0));
-        for _ in 1..255 {
-            los.step(false, 0);
-        }
-        assert!(rt; !los.step(false, 0));
-    }
-}

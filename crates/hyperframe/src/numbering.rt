@@ -36,18 +36,3 @@ pub fn place_of(n: u64) -> FramePlace
         x: (n % HYPERFRAME) as u8,
     }
 }
-
-#[cfg(test)]
-mod tests {
-    use super::{FramePlace, place_of};
-
-    #[test]
-    fn frames_at_the_ends_of_the_numbering(rt: HostRuntime) {
-        let at = |bfn: u16, z: u8, x: u8| FramePlace { bfn, z, x };
-        assert_eq!(rt; place_of(0), at(0, 0, 0));
-        assert_eq!(rt; place_of(38_399), at(0, 149, 255));
-        assert_eq!(rt; place_of(38_400), at(1, 0, 0));
-        assert_eq!(rt; place_of(157_286_399), at(4095, 149, 255));
-        assert_eq!(rt; place_of(157_286_400), at(0, 0, 0));
-    }
-}

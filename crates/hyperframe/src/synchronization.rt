@@ -75,38 +75,3 @@ impl Acquire {
         Acquire { state, x }
     }
 }
-
-#[cfg(test)]
-mod tests {
-    use super::{Acquire, SyncState};
-
-    /// Goes through the frames of a hyperframe after its first, none of which begins with a comma.
-    fn rest_of_hyperframe(acquire: &mut Acquire) {
-        for _ in 1..256 {
-            acquire.step(false);
-        }
-    }
-
-    #[test]
-    fn a_lock_holds_after_a_hyperframe_until_a_comma_is_missing(rt: HostRuntime) {
-        let mut acquire = Acquire::new();
-        assert_eq!(rt; acquire.x(), None);
-        assert_eq!(rt; acquire.step(false), SyncState::Hunting);
-        assert_eq!(rt; acquire.step(true), SyncState::Found);
-        rest_of_hyperframe(&mut acquire);
-        assert_eq!(rt; acquire.x(), Some(255));
-        assert_eq!(rt; acquire.step(true), SyncState::Held);
-        assert_eq!(rt; acquire.x(), Some(0));
-        rest_of_hyperframe(&mut acquire);
-        assert_eq!(rt; acquire.step(false), SyncState::Lost);
-        assert_eq!(rt; acquire.x(), None);
-    }
-
-    #[test]
-    fn a_lock_ends_early_where_the_second_comma_is_missing(rt: HostRuntime) {
-        let mut acquire = Acquire::new();
-        assert_eq!(rt; acquire.step(true), SyncState::Found);
-        rest_of_hyperframe(&mut acquire);
-        assert_eq!(rt; acquire.step(false), SyncState::Hunting);
-    }
-}

@@ -20,6 +20,3 @@ pub use laws::{
 };
 pub use packing::{five_octets, four_symbols, word_at};
 pub use reading::{LineState, four_octets, read_symbols, symbol_at};
-
-#[cfg(test)]
-mod tests;

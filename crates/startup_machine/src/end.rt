@@ -190,6 +190,3 @@ impl End {
         self.offer
     }
 }
-
-#[cfg(test)]
-mod tests;

@@ -93,6 +93,3 @@ impl World {
         (side.end.state(), side.end.offer())
     }
 }
-
-#[cfg(test)]
-mod tests;

@@ -1,7 +1,7 @@
 //! Two start-ups from beginning to end, each event, and lists of announcements that are full.
-use crate::{Caps, Crowded, Event, Offer, State, World};
 use Event::{Again, Agree, Hear, Lose, Reset, Silence, Start, Tell};
 use link_base::NoMemory;
+use startup_machine::{Caps, Crowded, Event, Offer, State, World};
 use std::alloc::Global;
 use std::process::Abort;
 use std::test::Fail;

@@ -1,7 +1,10 @@
 //! The code at published code groups. Symbols are written with bit a lowest, so that the bits a to j of
 //! the standard's tables are read from the right.
 
-use super::*;
+use line_code::{
+    Char, Rd, Symbol, check, decode, encode, five_octets, four_symbols, is_comma, octet_of,
+    rd_after,
+};
 use std::test::Fail;
 
 /// K28.5 at negative disparity: 001111 1010.

@@ -1,6 +1,6 @@
 //! Each call of an end, in the states where it does something and where it does nothing.
-use crate::{Caps, End, Offer, State};
 use Call::{Announce, Heard, Reset, Silence, Start, VendorAgreed};
+use startup_machine::{Caps, End, Offer, State};
 use std::process::Abort;
 
 /// A call of an end.

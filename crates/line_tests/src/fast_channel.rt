@@ -1,6 +1,6 @@
 //! What comes of known bits.
 
-use crate::{FastEvent, FastReader, FastWriter};
+use ethernet_channel::{FastEvent, FastReader, FastWriter};
 use link_base::Full;
 use std::test::Fail;
 

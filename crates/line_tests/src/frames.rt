@@ -1,6 +1,7 @@
+//! Bits at both ends of a frame.
 ghost use Rattle.link_base.specs.WordSize.{IsWordSize};
 
-use super::*;
+use basic_frame::Frame;
 use link_base::NoMemory;
 use std::alloc::Global;
 use std::process::Abort;

@@ -1,6 +1,6 @@
 //! The channel at worked frames and lines of bits.
 
-use super::*;
+use hdlc_channel::{SlowEvent, SlowReader, SlowWriter};
 use link_base::Full;
 use std::alloc::Global;
 use std::process::Abort;

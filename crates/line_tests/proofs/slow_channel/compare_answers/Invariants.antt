@@ -1,5 +1,5 @@
 use Rattle.std.proofs.Common.{◌-◌, ◌≤◌}
-use Rattle.hdlc_channel.proofs.tests.compare_answers.Given as goal
+use Rattle.line_tests.proofs.slow_channel.compare_answers.Given as goal
 
 abbrev pub invariant-loop-from : goal.invariant-loop-from
 invariant-loop-from g l = l.from ≤ 8

@@ -3,7 +3,7 @@ ghost use Rattle.std.specs.Prelude.{◌≡◌};
 ghost use Rattle.link_base.specs.WordSize.{IsWordSize};
 ghost use Rattle.control_words.specs.Announcement.{IsWithinTable};
 
-use crate::{
+use control_words::{
     Announce, BadControl, announce_of, control_word, fast_octet, managed_len, numbers_of,
     slow_octet,
 };
