@@ -13,6 +13,3 @@ pub use container::{size, span};
 pub use laws::{places_are_distinct, places_are_in_time, places_are_within};
 pub use packing::{pack_frame, pack_raw};
 pub use unpacking::{unpack, unpack_raw, unpack_run};
-
-#[cfg(test)]
-mod tests;

@@ -2,5 +2,4 @@ pub mod Blocks
 pub mod HeldLemmas
 pub mod Masks
 pub mod Pieces
-pub mod Rates
 pub mod Spans

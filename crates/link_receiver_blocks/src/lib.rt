@@ -12,6 +12,3 @@ mod reading;
 
 pub use block::BlockInHand;
 pub use mapping::{Leaving, Mapping};
-
-#[cfg(test)]
-mod tests;

@@ -19,6 +19,3 @@ pub use laws::{
 pub use range::Range;
 pub use sender::Sender;
 pub use word_sizes::AnySender;
-
-#[cfg(test)]
-mod tests;

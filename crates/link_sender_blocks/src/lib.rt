@@ -13,6 +13,3 @@ mod samples;
 pub use mapping::Mapping;
 pub use range::first_outside;
 pub use samples::SamplesInHand;
-
-#[cfg(test)]
-mod tests;

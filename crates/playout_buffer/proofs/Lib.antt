@@ -2,7 +2,6 @@ pub mod Awaited
 pub mod Candidates
 pub mod Freshness
 pub mod Lookups
-pub mod Meeting
 pub mod Numbers
 pub mod Receiving
 pub mod Room

@@ -14,6 +14,3 @@ pub use laws::{
 pub use playout::Playout;
 pub use put::Put;
 pub use window::Window;
-
-#[cfg(test)]
-mod tests;

@@ -8,6 +8,3 @@ mod writing;
 pub use packet::{NotRoe, Packet};
 pub use reading::{packet_is_read_back, parse};
 pub use writing::write;
-
-#[cfg(test)]
-mod tests;

@@ -22,6 +22,3 @@ pub use mapping::map_frame;
 pub use route::Route;
 pub use spelling::spell;
 pub use unmapping::{Unmapped, unmap_frame};
-
-#[cfg(test)]
-mod tests;

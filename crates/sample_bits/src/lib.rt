@@ -15,6 +15,3 @@ pub use iq::{Iq, RawIq, SampleWord};
 pub use put::{clear_bits, put_bits};
 pub use run::read_run;
 pub use writing::write_run;
-
-#[cfg(test)]
-mod tests;

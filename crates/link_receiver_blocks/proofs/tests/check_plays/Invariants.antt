@@ -1,7 +1,0 @@
-use Rattle.std.proofs.Common.{◌≡◌}
-use Rattle.plan_checker.specs.Container.{pieces_size}
-use Rattle.link_receiver_blocks.specs.Containers.{container_bits}
-use Rattle.link_receiver_blocks.proofs.tests.check_plays.Given as goal
-
-abbrev pub invariant-loop-frame : goal.invariant-loop-frame
-invariant-loop-frame g l = pieces_size l.route ≡ container_bits l.block.mapping

@@ -1,0 +1,9 @@
+use Rattle.std.proofs.Common.{refl}
+use Rattle.packet_tests.proofs.Meeting.{meets}
+use Rattle.packet_tests.proofs.playout.a_packet_of_four_frames_is_played_frame_by_frame.Goals as goal
+
+pub begin-requires : goal.begin-requires
+begin-requires g c = meets _ refl
+
+pub begin-requires-2 : goal.begin-requires-2
+begin-requires-2 g c = meets _ refl

@@ -1,9 +1,0 @@
-use Rattle.std.proofs.Common.{refl}
-use Rattle.playout_buffer.proofs.Meeting.{meets}
-use Rattle.playout_buffer.proofs.tests.a_packet_of_four_frames_is_played_frame_by_frame.Goals as goal
-
-pub begin-requires : goal.begin-requires
-begin-requires g c = meets _ refl
-
-pub begin-requires-2 : goal.begin-requires-2
-begin-requires-2 g c = meets _ refl

@@ -1,9 +1,0 @@
-use Rattle.std.proofs.Common.{refl}
-use Rattle.playout_buffer.proofs.Meeting.{meets}
-use Rattle.playout_buffer.proofs.tests.the_longest_runs_take_no_more_memory.Goals as goal
-
-pub begin-requires : goal.begin-requires
-begin-requires g c = meets _ refl
-
-pub begin-requires-2 : goal.begin-requires-2
-begin-requires-2 g c = meets _ refl
