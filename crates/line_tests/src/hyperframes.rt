@@ -1,44 +1,53 @@
 //! The numbers of frames, locks on the line, and the loss of signal.
 use hyperframe::{Acquire, FramePlace, Los, SyncState, place_of};
 
+/// The number of a frame, and its BFN, Z and X.
+const PLACES: [(u64, u16, u8, u8); 5] = [
+    (0, 0, 0, 0),
+    (38_399, 0, 149, 255),
+    (38_400, 1, 0, 0),
+    (157_286_399, 4095, 149, 255),
+    (157_286_400, 0, 0, 0),
+];
+
 #[test]
 fn frames_at_the_ends_of_the_numbering(rt: HostRuntime) {
-    let at = |bfn: u16, z: u8, x: u8| FramePlace { bfn, z, x };
-    assert_eq!(rt; place_of(0), at(0, 0, 0));
-    assert_eq!(rt; place_of(38_399), at(0, 149, 255));
-    assert_eq!(rt; place_of(38_400), at(1, 0, 0));
-    assert_eq!(rt; place_of(157_286_399), at(4095, 149, 255));
-    assert_eq!(rt; place_of(157_286_400), at(0, 0, 0));
+    for (n, bfn, z, x) in PLACES {
+        assert_eq!(rt; place_of(n), FramePlace { bfn, z, x });
+    }
 }
 
-/// Goes through the frames of a hyperframe after its first, none of which begins with a comma.
-fn rest_of_hyperframe(acquire: &mut Acquire) {
-    for _ in 1..256 {
-        acquire.step(false);
+/// Frames in a row, whether they begin with a comma, and the state and X after them.
+const LOCKS: [(usize, bool, SyncState, Option<u8>); 9] = [
+    (1, false, SyncState::Hunting, None),
+    (1, true, SyncState::Found, Some(0)),
+    (255, false, SyncState::Found, Some(255)),
+    (1, true, SyncState::Held, Some(0)),
+    (255, false, SyncState::Held, Some(255)),
+    (1, false, SyncState::Lost, None),
+    // A lock ends early where the second comma is missing.
+    (1, true, SyncState::Found, Some(0)),
+    (255, false, SyncState::Found, Some(255)),
+    (1, false, SyncState::Hunting, None),
+];
+
+/// The state after so many frames.
+fn after(acquire: &mut Acquire, frames: usize, comma: bool) -> SyncState {
+    let mut state = SyncState::Hunting;
+    for _ in 0..frames {
+        state = acquire.step(comma);
     }
+    state
 }
 
 #[test]
 fn a_lock_holds_after_a_hyperframe_until_a_comma_is_missing(rt: HostRuntime) {
     let mut acquire = Acquire::new();
     assert_eq!(rt; acquire.x(), None);
-    assert_eq!(rt; acquire.step(false), SyncState::Hunting);
-    assert_eq!(rt; acquire.step(true), SyncState::Found);
-    rest_of_hyperframe(&mut acquire);
-    assert_eq!(rt; acquire.x(), Some(255));
-    assert_eq!(rt; acquire.step(true), SyncState::Held);
-    assert_eq!(rt; acquire.x(), Some(0));
-    rest_of_hyperframe(&mut acquire);
-    assert_eq!(rt; acquire.step(false), SyncState::Lost);
-    assert_eq!(rt; acquire.x(), None);
-}
-
-#[test]
-fn a_lock_ends_early_where_the_second_comma_is_missing(rt: HostRuntime) {
-    let mut acquire = Acquire::new();
-    assert_eq!(rt; acquire.step(true), SyncState::Found);
-    rest_of_hyperframe(&mut acquire);
-    assert_eq!(rt; acquire.step(false), SyncState::Hunting);
+    for (frames, comma, state, x) in LOCKS {
+        assert_eq!(rt; after(&mut acquire, frames, comma), state);
+        assert_eq!(rt; acquire.x(), x);
+    }
 }
 
 #[test]

@@ -1,7 +1,8 @@
 //! The channel at worked frames and lines of bits.
+ghost use Rattle.std.specs.Prelude.{◌≤◌, length};
 
 use hdlc_channel::{SlowEvent, SlowReader, SlowWriter};
-use link_base::Full;
+use link_base::{Full, NoMemory};
 use std::alloc::Global;
 use std::process::Abort;
 use std::test::Fail;
@@ -63,37 +64,55 @@ fn compare_answers(
     assert_eq!(rt; next, answers.len());
 }
 
-#[test]
-fn a_frame_is_written_and_read(rt: HostRuntime) -> Result<(), Fail> {
-    let mut writer = SlowWriter::begin(rt.alloc())?;
-    assert_eq!(rt; writer.queue(&FRAME), Ok(()));
-    compare_octets(&rt, &mut writer, &WRITTEN);
-    compare_octets(&rt, &mut writer, &[0x7e, 0x7e, 0x7e]);
-    let mut reader = SlowReader::begin(rt.alloc())?;
+/// Compares the octets that a new writer gives of a frame.
+fn compare_written(
+    rt: &impl Abort,
+    alloc: Global,
+    frame: &[u8],
+    octets: &[u8],
+) -> Result<(), NoMemory>
+    requires some { 1 ≤ length frame.now }
+    requires few { length frame.now ≤ 1500 }
+{
+    let mut writer = SlowWriter::begin(alloc)?;
+    assert_eq!(rt; writer.queue(frame), Ok(()));
+    compare_octets(rt, &mut writer, octets);
+    Ok(())
+}
+
+/// Compares what a new reader answers to octets, and the frame that it lends then.
+fn compare_read(
+    rt: &impl Abort,
+    alloc: Global,
+    octets: &[u8],
+    answers: &[(usize, u32, SlowEvent)],
+    frame: &[u8],
+) -> Result<(), NoMemory> {
+    let mut reader = SlowReader::begin(alloc)?;
     assert_eq!(rt; reader.frame(), [].as_slice());
-    compare_answers(&rt, &mut reader, &WRITTEN[..12], &[]);
-    compare_answers(
-        &rt,
-        &mut reader,
-        &WRITTEN[12..],
-        &[(0, 7, SlowEvent::Frame)],
-    );
-    assert_eq!(rt; reader.frame(), FRAME.as_slice());
+    compare_answers(rt, &mut reader, octets, answers);
+    assert_eq!(rt; reader.frame(), frame);
     reader.restart();
     assert_eq!(rt; reader.frame(), [].as_slice());
     Ok(())
 }
 
+#[test]
+fn a_frame_is_written_and_read(rt: HostRuntime) -> Result<(), Fail> {
+    compare_written(&rt, rt.alloc(), &FRAME, &WRITTEN)?;
+    let answers = [(12, 7, SlowEvent::Frame)];
+    compare_read(&rt, rt.alloc(), &WRITTEN, &answers, &FRAME)?;
+    Ok(())
+}
+
 /// A frame whose content ends in five 1s: its sequence is F838h, and a 0 is put in between these 1s and the closing flag.
+/// More flags follow.
 #[test]
 fn five_ones_before_a_flag(rt: HostRuntime) -> Result<(), Fail> {
-    let mut writer = SlowWriter::begin(rt.alloc())?;
-    assert_eq!(rt; writer.queue(&[0x88]), Ok(()));
     let written = [0x7e, 0x88, 0x38, 0xf8, 0xfc, 0xfc, 0xfc];
-    compare_octets(&rt, &mut writer, &written);
-    let mut reader = SlowReader::begin(rt.alloc())?;
-    compare_answers(&rt, &mut reader, &written, &[(5, 0, SlowEvent::Frame)]);
-    assert_eq!(rt; reader.frame(), [0x88].as_slice());
+    compare_written(&rt, rt.alloc(), &[0x88], &written)?;
+    let answers = [(5, 0, SlowEvent::Frame)];
+    compare_read(&rt, rt.alloc(), &written, &answers, &[0x88])?;
     Ok(())
 }
 
@@ -165,20 +184,43 @@ fn a_wrong_sequence_and_a_frame_too_long(rt: HostRuntime) -> Result<(), Fail> {
     Ok(())
 }
 
+/// A frame as long as a frame may be.
+const LONGEST: [u8; 1500] = [0; 1500];
+
+/// Octets that a writer gives, and what is answered to the frame that is queued then.
+const QUEUED: [(usize, &[u8], Result<(), Full>); 10] = [
+    (0, &LONGEST, Ok(())),
+    (0, &LONGEST, Ok(())),
+    (0, &LONGEST, Ok(())),
+    (0, &LONGEST, Ok(())),
+    (0, &LONGEST, Ok(())),
+    (0, &LONGEST, Err(Full { room: 682 })),
+    // The first frame is begun behind the flag.
+    (1, &LONGEST, Err(Full { room: 682 })),
+    (1, &LONGEST, Ok(())),
+    (0, &[0; 680], Ok(())),
+    (0, &[0], Err(Full { room: 0 })),
+];
+
+/// Queues a frame once a writer has given so many octets.
+fn queue_after(
+    rt: &impl Abort,
+    writer: &mut SlowWriter,
+    octets: usize,
+    frame: &[u8],
+) -> Result<(), Full> {
+    for _ in 0..octets {
+        writer.next();
+    }
+    assert!(rt; 1 <= frame.len() && frame.len() <= 1500);
+    writer.queue(frame)
+}
+
 #[test]
 fn a_queue_is_full(rt: HostRuntime) -> Result<(), Fail> {
     let mut writer = SlowWriter::begin(rt.alloc())?;
-    let frame = [0; 1500];
-    for _ in 0..5 {
-        assert_eq!(rt; writer.queue(&frame), Ok(()));
+    for (octets, frame, answer) in QUEUED {
+        assert_eq!(rt; queue_after(&rt, &mut writer, octets, frame), answer);
     }
-    assert_eq!(rt; writer.queue(&frame), Err(Full { room: 682 }));
-    // The first frame is begun behind the flag.
-    compare_octets(&rt, &mut writer, &[0x7e]);
-    assert_eq!(rt; writer.queue(&frame), Err(Full { room: 682 }));
-    compare_octets(&rt, &mut writer, &[0]);
-    assert_eq!(rt; writer.queue(&frame), Ok(()));
-    assert_eq!(rt; writer.queue(&[0; 680]), Ok(()));
-    assert_eq!(rt; writer.queue(&[0]), Err(Full { room: 0 }));
     Ok(())
 }

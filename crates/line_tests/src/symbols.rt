@@ -5,6 +5,7 @@ use line_code::{
     Char, Rd, Symbol, check, decode, encode, five_octets, four_symbols, is_comma, octet_of,
     rd_after,
 };
+use std::process::Abort;
 use std::test::Fail;
 
 /// K28.5 at negative disparity: 001111 1010.
@@ -16,6 +17,13 @@ const COMMA: Symbol = Symbol {
 const NO_CODE_GROUP: Symbol = Symbol {
     bits: 0b1001_111100,
 };
+
+/// Compares what a symbol spells whatever the disparity: a character, and its octet.
+fn compare_character(rt: &impl Abort, sym: Symbol, ch: Char, octet: u8) {
+    assert_eq!(rt; decode(sym), Some(ch));
+    assert_eq!(rt; is_comma(sym), ch == Char::Comma);
+    assert_eq!(rt; octet_of(sym), octet);
+}
 
 #[test]
 fn encode_spells_published_code_groups(rt: HostRuntime) -> Result<(), Fail> {
@@ -29,12 +37,9 @@ fn encode_spells_published_code_groups(rt: HostRuntime) -> Result<(), Fail> {
     ];
     for (rd, ch, bits, after, octet) in table {
         let (sym, next) = encode(rd, ch);
-        assert_eq!(rt; sym.bits, bits);
-        assert_eq!(rt; next, after);
+        assert_eq!(rt; (sym.bits, next), (bits, after));
         assert_eq!(rt; check(rd, sym), Some((ch, after)));
-        assert_eq!(rt; decode(sym), Some(ch));
-        assert_eq!(rt; is_comma(sym), ch == Char::Comma);
-        assert_eq!(rt; octet_of(sym), octet);
+        compare_character(&rt, sym, ch, octet);
     }
     Ok(())
 }
