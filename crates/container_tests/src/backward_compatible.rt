@@ -10,14 +10,12 @@ use std::test::Fail;
 #[test]
 #[tactic(auto, using(crate::proofs::Rates::usual_rates))]
 fn stuffing_containers_are_spread_over_the_block(rt: HostRuntime) {
-    assert_eq!(&rt; size(15, 35, 12), 90);
-    assert_eq!(&rt; containers(35, 12), 3);
+    assert_eq!(&rt; (containers(35, 12), size(15, 35, 12)), (3, 90));
     for u in 0..40 {
-        assert_eq!(&rt; is_stuffing(u, 35, 12), u == 0);
-        assert_eq!(&rt; is_stuffing(u, 2, 5), u == 0 || u == 1 || u == 3);
+        let stuffing = (is_stuffing(u, 35, 12), is_stuffing(u, 2, 5));
+        assert_eq!(&rt; stuffing, (u == 0, u == 0 || u == 1 || u == 3));
     }
-    assert_eq!(&rt; span(15, 2, 5, 0), (2, 2));
-    assert_eq!(&rt; span(15, 2, 5, 1), (4, 4));
+    assert_eq!(&rt; [span(15, 2, 5, 0), span(15, 2, 5, 1)], [(2, 2), (4, 4)]);
 }
 
 // The two samples of five frames stand in the third and the last. What stands around them stays.

@@ -8,13 +8,15 @@ use std::test::Fail;
 #[test]
 #[tactic(auto, using(crate::proofs::Rates::usual_rates))]
 fn containers_hold_a_block_with_stuffing_bits_last(rt: HostRuntime) {
-    assert_eq!(&rt; size(15, 4, 1), 120);
-    assert_eq!(&rt; size(15, 1, 2), 16);
-    assert_eq!(&rt; size(4, 3, 2), 12);
-    assert_eq!(&rt; size(15, 35, 12), 88);
-    assert_eq!(&rt; span(15, 35, 12, 2), (0, 1));
-    assert_eq!(&rt; span(15, 35, 12, 34), (11, 11));
-    assert_eq!(&rt; span(4, 3, 2, 0), (0, 0));
+    let sizes = [
+        size(15, 4, 1),
+        size(15, 1, 2),
+        size(4, 3, 2),
+        size(15, 35, 12),
+    ];
+    assert_eq!(&rt; sizes, [120, 16, 12, 88]);
+    let spans = [span(15, 35, 12, 2), span(15, 35, 12, 34), span(4, 3, 2, 0)];
+    assert_eq!(&rt; spans, [(0, 1), (11, 11), (0, 0)]);
 }
 
 // The 30 bits of (1, -1) in two containers of 16 bits. What stands around them stays.

@@ -1,47 +1,59 @@
 //! Both ends of the range of a sample, and bits copied by words.
 ghost use Rattle.std.specs.Prelude.{◌+◌, ◌*◌, ◌^◌, ◌<◌, ◌≤◌, length};
+ghost use Rattle.sample_bits.specs.SampleRate.{IsSampleWidth};
 
 use sample_bits::{Iq, RawIq, copy_bits};
-use std::test::Fail;
+use std::process::Abort;
+
+// The range of a width has both of its ends, and nothing beyond.
+fn compare_range<const M: u32>(rt: &impl Abort, least: i32, greatest: i32)
+    requires { IsSampleWidth M }
+{
+    let below = least.saturating_sub(1);
+    let above = greatest.saturating_add(1);
+    for (i, q, fits) in [
+        (least, greatest, true),
+        (greatest, least, true),
+        (below, 0, false),
+        (0, below, false),
+        (above, 0, false),
+        (0, above, false),
+    ] {
+        assert_eq!(rt;
+            Iq::<M>::narrow(RawIq { i, q }).is_some(),
+            fits,
+            "({i}, {q})"
+        );
+    }
+}
 
 #[test]
 fn narrow_takes_both_ends_and_nothing_beyond(rt: HostRuntime) {
-    macro_rules! ends {
-        ($m:literal, $least:literal, $greatest:literal) => {
-            for (i, q) in [($least, $greatest), ($greatest, $least)] {
-                let raw = RawIq { i, q };
-                let sample = Iq::<$m>::narrow(raw);
-                assert_eq!(&rt; sample.map(|s| s.wide()), Some(raw));
-            }
-            for outside in [$least - 1, $greatest + 1] {
-                assert_eq!(&rt; Iq::<$m>::narrow(RawIq { i: outside, q: 0 }), None);
-                assert_eq!(&rt; Iq::<$m>::narrow(RawIq { i: 0, q: outside }), None);
-            }
-        };
-    }
-    ends!(4, -8, 7);
-    ends!(15, -16384, 16383);
-    ends!(20, -524288, 524287);
+    compare_range::<4>(&rt, -8, 7);
+    compare_range::<15>(&rt, -16384, 16383);
+    compare_range::<20>(&rt, -524288, 524287);
+}
+
+// The bits of a sample as a word, and the sample of this word.
+fn compare_word<const M: u32>(rt: &impl Abort, i: i32, q: i32, word: u64)
+    requires width { IsSampleWidth M }
+    requires bits { word < 2 ^ (2 * M) }
+{
+    let sample = Iq::<M>::deinterleave(word);
+    assert_eq!(rt; sample.wide(), RawIq { i, q });
+    assert_eq!(rt; sample.interleave(), word);
 }
 
 // With I at the greatest and Q at the least value, I has all bits but the highest, and Q the highest alone.
 #[test]
-fn words_of_both_ends_weave_and_part(rt: HostRuntime) -> Result<(), Fail> {
-    macro_rules! weaves {
-        ($m:literal, $i:literal, $q:literal, $word:literal) => {
-            let sample = Iq::<$m>::narrow(RawIq { i: $i, q: $q }).ok_or("out of range")?;
-            assert_eq!(&rt; sample.interleave(), $word);
-            assert_eq!(&rt; Iq::<$m>::deinterleave($word), sample);
-        };
-    }
-    weaves!(4, 7, -8, 0x95);
-    weaves!(4, -8, 7, 0x6a);
-    weaves!(15, 16383, -16384, 0x2555_5555);
-    weaves!(15, -16384, 16383, 0x1aaa_aaaa);
-    weaves!(15, 1, -1, 0x2aaa_aaab);
-    weaves!(20, 524287, -524288, 0x95_5555_5555);
-    weaves!(20, -524288, 524287, 0x6a_aaaa_aaaa);
-    Ok(())
+fn words_of_both_ends_weave_and_part(rt: HostRuntime) {
+    compare_word::<4>(&rt, 7, -8, 0x95);
+    compare_word::<4>(&rt, -8, 7, 0x6a);
+    compare_word::<15>(&rt, 16383, -16384, 0x2555_5555);
+    compare_word::<15>(&rt, -16384, 16383, 0x1aaa_aaaa);
+    compare_word::<15>(&rt, 1, -1, 0x2aaa_aaab);
+    compare_word::<20>(&rt, 524287, -524288, 0x95_5555_5555);
+    compare_word::<20>(&rt, -524288, 524287, 0x6a_aaaa_aaaa);
 }
 
 // The copy bit by bit.

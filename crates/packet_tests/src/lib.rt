@@ -7,6 +7,8 @@ mod packets;
 #[cfg(test)]
 mod parts;
 #[cfg(test)]
+mod plans;
+#[cfg(test)]
 mod playout;
 #[cfg(test)]
 mod senders;

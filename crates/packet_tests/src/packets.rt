@@ -71,34 +71,39 @@ fn refusal(place: usize, octet: u8, length: usize) -> Result<(), NotRoe> {
     parse(&octets[..length.min(60)]).map(|_| ())
 }
 
-#[test]
-fn the_first_reason_why_octets_are_no_packet(rt: HostRuntime) {
-    assert_eq!(rt; refusal(12, 0xFC, 60), Ok(()));
-    assert_eq!(rt; refusal(12, 0x08, 21), Err(NotRoe::Short { length: 21 }));
-    assert_eq!(rt;
-        refusal(12, 0x08, 60),
-        Err(NotRoe::EtherType { got: 0x083D })
-    );
-    assert_eq!(rt;
-        refusal(13, 0x3C, 22),
-        Err(NotRoe::EtherType { got: 0xFC3C })
-    );
-    assert_eq!(rt; refusal(14, 0x01, 22), Err(NotRoe::SubType { got: 1 }));
-    assert_eq!(rt; refusal(14, 0x05, 60), Err(NotRoe::SubType { got: 5 }));
-    assert_eq!(rt;
-        refusal(17, 0x27, 60),
+/// A changed octet, how many octets came, and what is answered.
+const READ: [(usize, u8, usize, Result<(), NotRoe>); 10] = [
+    (12, 0xFC, 60, Ok(())),
+    (12, 0x08, 21, Err(NotRoe::Short { length: 21 })),
+    (12, 0x08, 60, Err(NotRoe::EtherType { got: 0x083D })),
+    (13, 0x3C, 22, Err(NotRoe::EtherType { got: 0xFC3C })),
+    (14, 0x01, 22, Err(NotRoe::SubType { got: 1 })),
+    (14, 0x05, 60, Err(NotRoe::SubType { got: 5 })),
+    (
+        17,
+        0x27,
+        60,
         Err(NotRoe::Length {
             said: 39,
-            there: 38
-        })
-    );
-    assert_eq!(rt; refusal(17, 0x26, 60), Ok(()));
-    assert_eq!(rt;
-        refusal(17, 0x10, 37),
+            there: 38,
+        }),
+    ),
+    (17, 0x26, 60, Ok(())),
+    (
+        17,
+        0x10,
+        37,
         Err(NotRoe::Length {
             said: 16,
-            there: 15
-        })
-    );
-    assert_eq!(rt; refusal(17, 0x10, 38), Ok(()));
+            there: 15,
+        }),
+    ),
+    (17, 0x10, 38, Ok(())),
+];
+
+#[test]
+fn the_first_reason_why_octets_are_no_packet(rt: HostRuntime) {
+    for (place, octet, length, answer) in READ {
+        assert_eq!(rt; refusal(place, octet, length), answer, "at {place}");
+    }
 }

@@ -2,19 +2,15 @@
 ghost use Rattle.std.specs.Prelude.{◌≡◌, ◌<◌, length};
 ghost use Rattle.plan_checker.specs.Run.{samples_due};
 
-use carrier_plan::read;
+use crate::plans::{PLAN, checked};
 use control_words::Announce;
 use link_base::NoMemory;
 use link_sender::AnySender;
-use plan_checker::{Checked, check};
+use plan_checker::Checked;
 use sample_bits::RawIq;
 use std::alloc::Global;
 use std::process::Abort;
 use std::test::Fail;
-
-/// One carrier of a sample in each frame, and a flow whose windows open with the last frame of a packet.
-const PLAN: &str =
-    "version = 1\noption = 1\nmode = \"bytes\"\nplayout = 2\n[[carrier]]\nmethod = 1\ns = 1\nk = 1\nm = 8\nstart = 0\nsize = 16\n[[flow]]\nid = 7\ndst = \"020000000001\"\nsrc = \"020000000002\"\ncontrol = true\ncarriers = [0]\nframes = 1\nlmin = 0\nlmax = 2\ncap = 3\np = 4\nq = 4\n";
 
 /// What is changed in the plan, and the octets of packets 0 and 1 from the subtype on, without the zeros at their ends.
 type Row = (&'static str, &'static str, &'static [u8], &'static [u8]);
@@ -56,20 +52,6 @@ const ANNOUNCE: Announce = Announce {
     pointer: 0,
     l1: 0,
 };
-
-// A plan that meets the rules, whose first carrier hands in a sample at tick 0.
-fn checked(rt: &impl Abort, alloc: Global, text: &str) -> Checked
-    ensures carriers { 0 < length result.carriers }
-    ensures flows { 0 < length result.flows }
-    ensures due { samples_due result 0 0 ≡ 1 }
-{
-    let plan = read(alloc, text.as_bytes()).expect(rt, "a plan");
-    let checked = check(plan).expect(rt, "a plan that meets the rules");
-    assert!(rt; checked.plan().carriers.len() > 0);
-    assert!(rt; checked.plan().flows.len() > 0);
-    assert!(rt; checked.due(0, 0) == 1);
-    checked
-}
 
 // The next packet begins with these octets from the subtype on.
 fn compare(rt: &impl Abort, sender: &AnySender, octets: &[u8])
