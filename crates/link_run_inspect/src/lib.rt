@@ -10,6 +10,3 @@ mod reception;
 mod words;
 
 pub use inspection::inspect;
-
-#[cfg(test)]
-mod tests;

@@ -9,6 +9,3 @@ mod replay;
 
 pub use laws::{captures_are_replayed, text_is_whole};
 pub use replay::replay_capture;
-
-#[cfg(test)]
-mod tests;

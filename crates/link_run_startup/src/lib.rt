@@ -24,6 +24,3 @@ pub fn play_events<H: Shelf, K: Sink>(
 {
     read_feed::<Events, H, K>(&(), alloc, events, shelf, out)
 }
-
-#[cfg(test)]
-mod tests;

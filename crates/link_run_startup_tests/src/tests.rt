@@ -1,7 +1,7 @@
 // Start-ups over a file and a sink in memory.
-use crate::play_events;
 use link_base::{MemShelf, MemSink, NoMemory};
 use link_run_feed::{Reason, Status, code};
+use link_run_startup::play_events;
 use std::alloc::Global;
 use std::process::Abort;
 use std::test::Fail;

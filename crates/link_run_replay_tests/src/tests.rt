@@ -1,7 +1,7 @@
 // Replays over files and a sink in memory.
-use crate::replay_capture;
 use link_base::{MemShelf, MemSink, NoMemory};
 use link_run_feed::{Reason, Status, code};
+use link_run_replay::replay_capture;
 use std::alloc::Global;
 use std::process::Abort;
 use std::test::Fail;

@@ -1,7 +1,7 @@
 // Lines over a file and a sink in memory.
-use crate::inspect;
 use link_base::{MemShelf, MemSink, NoMemory};
 use link_run_feed::{Reason, Status};
+use link_run_inspect::inspect;
 use std::alloc::Global;
 use std::test::Fail;
 

@@ -1,0 +1,6 @@
+//! Lines inspected over a file and a sink in memory, apart from `link_run_inspect`, which is proved once more with tests of its
+//! own.
+#![tactic(auto)]
+
+#[cfg(test)]
+mod tests;

@@ -1,0 +1,5 @@
+//! Captures replayed over files and a sink in memory, apart from `link_run_replay`, which is proved once more with tests of its own.
+#![tactic(auto)]
+
+#[cfg(test)]
+mod tests;
