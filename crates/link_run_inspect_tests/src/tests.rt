@@ -3,6 +3,7 @@ use link_base::{MemShelf, MemSink, NoMemory};
 use link_run_feed::{Reason, Status};
 use link_run_inspect::inspect;
 use std::alloc::Global;
+use std::process::Abort;
 use std::test::Fail;
 
 /// The first frame of an option 1 line, of which each octet but the comma is 0.
@@ -17,88 +18,91 @@ const SILENT: &str = "0000000000000000000000000000000000000000\n";
 /// As many digits, without a line feed.
 const DIGITS: &str = "0000000000000000000000000000000000000000";
 
-/// What a call left: its status and the text that was written.
-#[derive(Debug, Drop)]
-struct Outcome {
-    status: Status,
-    text: Vec<u8>,
-}
+/// The pieces of a file, and what is printed of it.
+const GOOD: [(&[&str], &str); 4] = [
+    (&["line 1 1\n", FRAME, "end\n"], "0 sync found\nend 1 0\n"),
+    (&["line 1 1\n", DAMAGED, "end\n"], "end 1 1\n"),
+    (
+        &["line 1 2\n", FRAME, SILENT, "end\n"],
+        "0 sync found\n1 los on\nend 2 16\n",
+    ),
+    (&["line 7 0\n", "end\n"], "end 0 0\n"),
+];
 
-// Reads a file of these pieces.
-fn read(alloc: Global, pieces: &[&str]) -> Result<Outcome, NoMemory> {
+/// The pieces of a file, its first bad line and why it is, and what is printed.
+const BAD: [(&[&str], u64, Reason, &str); 9] = [
+    (&["line 0 1\n"], 1, Reason::Header, "bad 1 header\n"),
+    (&["line 8 1\n"], 1, Reason::Header, "bad 1 header\n"),
+    (&["line 1 1 1\n"], 1, Reason::Header, "bad 1 header\n"),
+    (&["line 1 2097153\n"], 1, Reason::Header, "bad 1 header\n"),
+    (&["line 1 1\n", "end\n"], 2, Reason::Count, "bad 2 count\n"),
+    (&["line 1 0\n", FRAME], 2, Reason::Count, "bad 2 count\n"),
+    (
+        &["line 1 2\n", FRAME, "7c\n"],
+        3,
+        Reason::Hex,
+        "0 sync found\nbad 3 hex\n",
+    ),
+    (
+        &["line 1 1\n", FRAME],
+        3,
+        Reason::Unended,
+        "0 sync found\nbad 3 unended\n",
+    ),
+    (
+        &["line 1 1\n", FRAME, "end\n", "x"],
+        4,
+        Reason::After,
+        "0 sync found\nbad 4 after\n",
+    ),
+];
+
+// The file of these pieces.
+fn file_of(alloc: Global, pieces: &[&str]) -> Result<String, NoMemory> {
     let mut file = String::new(alloc);
     for piece in pieces {
         file.push_str(piece)?;
     }
+    Ok(file)
+}
+
+// Reads a file.
+fn read(alloc: Global, file: &str) -> Result<(Status, Vec<u8>), NoMemory> {
     let mut shelf = MemShelf::new(alloc, 4096);
     shelf.add("line", file.as_bytes())?;
     let mut out = MemSink::new(alloc, 4096, 4096)?;
     let status = inspect(alloc, "line", &mut shelf, &mut out);
-    let text = Vec::from_slice(alloc, out.octets())?;
-    Ok(Outcome { status, text })
+    Ok((status, Vec::from_slice(alloc, out.octets())?))
+}
+
+// Compares what is printed of the file of these pieces.
+fn compare(
+    rt: &impl Abort,
+    alloc: Global,
+    pieces: &[&str],
+    text: &str,
+    status: Status,
+) -> Result<(), Fail> {
+    let file = file_of(alloc, pieces)?;
+    let (given, printed) = read(alloc, file.as_str())?;
+    assert_eq!(rt; printed.as_slice(), text.as_bytes(), "{file}");
+    assert_eq!(rt; given, status, "{file}");
+    Ok(())
 }
 
 #[test]
 fn what_frames_show(rt: HostRuntime) -> Result<(), Fail> {
-    let rows: [(&[&str], &str); 4] = [
-        (&["line 1 1\n", FRAME, "end\n"], "0 sync found\nend 1 0\n"),
-        (&["line 1 1\n", DAMAGED, "end\n"], "end 1 1\n"),
-        (
-            &["line 1 2\n", FRAME, SILENT, "end\n"],
-            "0 sync found\n1 los on\nend 2 16\n",
-        ),
-        (&["line 7 0\n", "end\n"], "end 0 0\n"),
-    ];
-    for (file, text) in rows {
-        let outcome = read(rt.alloc(), file)?;
-        assert_eq!(rt; outcome.text.as_slice(), text.as_bytes(), "{text}");
-        assert_eq!(rt; outcome.status, Status::Done, "{text}");
+    for (pieces, text) in GOOD {
+        compare(&rt, rt.alloc(), pieces, text, Status::Done)?;
     }
     Ok(())
 }
 
 #[test]
 fn the_first_bad_line(rt: HostRuntime) -> Result<(), Fail> {
-    let bad = |line: u64, reason: Reason| Status::FeedBad { line, reason };
-    let rows: [(&[&str], &str, Status); 9] = [
-        (&["line 0 1\n"], "bad 1 header\n", bad(1, Reason::Header)),
-        (&["line 8 1\n"], "bad 1 header\n", bad(1, Reason::Header)),
-        (&["line 1 1 1\n"], "bad 1 header\n", bad(1, Reason::Header)),
-        (
-            &["line 1 2097153\n"],
-            "bad 1 header\n",
-            bad(1, Reason::Header),
-        ),
-        (
-            &["line 1 1\n", "end\n"],
-            "bad 2 count\n",
-            bad(2, Reason::Count),
-        ),
-        (
-            &["line 1 0\n", FRAME],
-            "bad 2 count\n",
-            bad(2, Reason::Count),
-        ),
-        (
-            &["line 1 2\n", FRAME, "7c\n"],
-            "0 sync found\nbad 3 hex\n",
-            bad(3, Reason::Hex),
-        ),
-        (
-            &["line 1 1\n", FRAME],
-            "0 sync found\nbad 3 unended\n",
-            bad(3, Reason::Unended),
-        ),
-        (
-            &["line 1 1\n", FRAME, "end\n", "x"],
-            "0 sync found\nbad 4 after\n",
-            bad(4, Reason::After),
-        ),
-    ];
-    for (file, text, status) in rows {
-        let outcome = read(rt.alloc(), file)?;
-        assert_eq!(rt; outcome.text.as_slice(), text.as_bytes(), "{text}");
-        assert_eq!(rt; outcome.status, status, "{text}");
+    for (pieces, line, reason, text) in BAD {
+        let status = Status::FeedBad { line, reason };
+        compare(&rt, rt.alloc(), pieces, text, status)?;
     }
     Ok(())
 }
@@ -110,12 +114,9 @@ fn a_line_of_more_than_4096_octets(rt: HostRuntime) -> Result<(), Fail> {
     for _ in 0..103 {
         pieces.push(DIGITS)?;
     }
-    let outcome = read(rt.alloc(), pieces.as_slice())?;
-    assert_eq!(rt; outcome.text.as_slice(), b"bad 2 long\n".as_slice());
     let status = Status::FeedBad {
         line: 2,
         reason: Reason::Long,
     };
-    assert_eq!(rt; outcome.status, status);
-    Ok(())
+    compare(&rt, rt.alloc(), pieces.as_slice(), "bad 2 long\n", status)
 }

@@ -1,6 +1,7 @@
 // Replays over files and a sink in memory.
+use carrier_plan::{Field, Part, PlanText, Spot};
 use link_base::{MemShelf, MemSink, NoMemory};
-use link_run_feed::{Reason, Status, code};
+use link_run_feed::{Reason, Status};
 use link_run_replay::replay_capture;
 use std::alloc::Global;
 use std::process::Abort;
@@ -166,10 +167,23 @@ const BAD: [(&str, u64, Reason, &str); 5] = [
     ("capture 4097\n", 1, Reason::Header, "bad 1 header\n"),
 ];
 
-/// A part of the plan, what stands in its place, what is printed, and the number that the program ends with.
-const REFUSED: [(&str, &str, &str, u8); 2] = [
-    ("cap = 3", "cap = 2", "no 14 0\n", 1),
-    ("lmin = 0\n", "", "plan missing flow 0 lmin\n", 3),
+/// A part of the plan, what stands in its place, what is printed, and the status.
+const REFUSED: [(&str, &str, &str, Status); 2] = [
+    (
+        "cap = 3",
+        "cap = 2",
+        "no 14 0\n",
+        Status::No { rule: 14, item: 0 },
+    ),
+    (
+        "lmin = 0\n",
+        "",
+        "plan missing flow 0 lmin\n",
+        Status::PlanText(PlanText::Missing(Spot {
+            part: Part::Flow(0),
+            field: Field::Lmin,
+        })),
+    ),
 ];
 
 /// Plays the capture, if it is there, by the plan.
@@ -204,21 +218,34 @@ fn changed(alloc: Global, changes: &[Change<'_>]) -> Result<String, NoMemory> {
     Ok(plan)
 }
 
-// Plays the capture of a row, and compares what is printed.
-fn play_row(rt: &impl Abort, alloc: Global, row: &Row<'_>) -> Result<(), Fail> {
+// Plays the capture, if it is there, by the plan, and compares what is printed.
+fn compare(
+    rt: &impl Abort,
+    alloc: Global,
+    plan: &str,
+    capture: Option<&str>,
+    text: &str,
+    status: Status,
+) -> Result<(), Fail> {
+    let (given, printed) = play(alloc, plan, capture)?;
+    assert_eq!(rt; printed.as_slice(), text.as_bytes(), "{capture:?}");
+    assert_eq!(rt; given, status, "{capture:?}");
+    Ok(())
+}
+
+// Compares what is printed of a row.
+fn compare_row(rt: &impl Abort, alloc: Global, row: &Row<'_>) -> Result<(), Fail> {
     let (changes, ticks, records, text) = *row;
     let plan = changed(alloc, changes)?;
     let capture = capture_of(alloc, ticks, records)?;
-    let (status, printed) = play(alloc, plan.as_str(), Some(capture.as_str()))?;
-    assert_eq!(rt; printed.as_slice(), text.as_bytes(), "{capture}");
-    assert_eq!(rt; status, Status::Done, "{capture}");
-    Ok(())
+    let capture = Some(capture.as_str());
+    compare(rt, alloc, plan.as_str(), capture, text, Status::Done)
 }
 
 #[test]
 fn a_packet_counts_where_a_record_comes_in_its_window(rt: HostRuntime) -> Result<(), Fail> {
     for row in &ROWS {
-        play_row(&rt, rt.alloc(), row)?;
+        compare_row(&rt, rt.alloc(), row)?;
     }
     Ok(())
 }
@@ -226,20 +253,17 @@ fn a_packet_counts_where_a_record_comes_in_its_window(rt: HostRuntime) -> Result
 #[test]
 fn the_first_bad_line_is_told_after_the_settled_text(rt: HostRuntime) -> Result<(), Fail> {
     for (capture, line, reason, text) in BAD {
-        let (status, printed) = play(rt.alloc(), PLAN, Some(capture))?;
-        assert_eq!(rt; printed.as_slice(), text.as_bytes(), "{capture}");
-        assert_eq!(rt; status, Status::FeedBad { line, reason }, "{capture}");
+        let status = Status::FeedBad { line, reason };
+        compare(&rt, rt.alloc(), PLAN, Some(capture), text, status)?;
     }
     Ok(())
 }
 
 #[test]
 fn a_plan_that_is_refused_is_answered_without_the_capture(rt: HostRuntime) -> Result<(), Fail> {
-    for (old, new, text, number) in REFUSED {
+    for (old, new, text, status) in REFUSED {
         let plan = PLAN.replacen(rt.alloc(), old, new, 1)?;
-        let (status, printed) = play(rt.alloc(), plan.as_str(), None)?;
-        assert_eq!(rt; printed.as_slice(), text.as_bytes(), "{new}");
-        assert_eq!(rt; code(&status), number, "{new}");
+        compare(&rt, rt.alloc(), plan.as_str(), None, text, status)?;
     }
     Ok(())
 }

@@ -130,7 +130,7 @@ const ROWS_BY_PLAN: [Row<'static>; 9] = [
 #[test]
 fn captures_are_played_by_plans_of_each_kind(rt: HostRuntime) -> Result<(), Fail> {
     for row in &ROWS_BY_PLAN {
-        play_row(&rt, rt.alloc(), row)?;
+        compare_row(&rt, rt.alloc(), row)?;
     }
     Ok(())
 }
