@@ -9,6 +9,3 @@ mod written;
 pub use capture::{Arrival, MOST_OCTETS, read_record};
 pub use header::{Header, RunFile, Version, read_header, read_run_header};
 pub use written::{put_header, put_record};
-
-#[cfg(test)]
-mod tests;

@@ -8,6 +8,3 @@ mod store;
 
 pub use front::TickText;
 pub use run::{ROOM, put_run};
-
-#[cfg(test)]
-mod tests;

@@ -10,6 +10,3 @@ pub use channel::{Channel, push_octets};
 pub use events::{put_count, put_line};
 pub use places::{fast_len, slow_len};
 pub use reader::ManagementReader;
-
-#[cfg(test)]
-mod tests;

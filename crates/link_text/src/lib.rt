@@ -20,6 +20,3 @@ pub use lines::{Line, LineReader};
 pub use numbers::{decimal, decimal_is_read_back, put_number, signed, signed_is_read_back};
 pub use pairs::signed_pair;
 pub use text_buffer::TextBuffer;
-
-#[cfg(test)]
-mod tests;

@@ -1,6 +1,6 @@
 //! Runs of samples and their lines.
-use crate::{TickText, put_run};
 use link_base::MemSink;
+use link_run_entries::{TickText, put_run};
 use link_text::TextBuffer;
 use sample_bits::RawIq;
 use std::test::Fail;

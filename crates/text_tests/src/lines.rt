@@ -1,7 +1,7 @@
 //! Lines in pieces and with failures, and numbers and digits at their ends.
-use crate::{Line, LineReader, TextBuffer, decimal, octets, put_hex, put_number, signed};
 use arrayvec::ArrayVec;
 use link_base::{MemShelf, MemSink, Shelf};
+use link_text::{Line, LineReader, TextBuffer, decimal, octets, put_hex, put_number, signed};
 use std::alloc::Global;
 use std::process::Abort;
 use std::test::Fail;

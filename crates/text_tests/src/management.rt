@@ -4,9 +4,9 @@ ghost use Rattle.std.specs.Prelude.{◌≡◌};
 ghost use Rattle.link_base.specs.WordSize.{IsWordSize};
 ghost use Rattle.control_words.specs.Announcement.{IsWithinTable};
 
-use crate::ManagementReader;
 use control_words::Announce;
 use link_base::MemSink;
+use link_run_management::ManagementReader;
 use link_text::TextBuffer;
 use std::alloc::Global;
 use std::process::Abort;

@@ -1,5 +1,5 @@
 // The lines of captures.
-use crate::{Arrival, MOST_OCTETS, Version, read_header, read_record};
+use link_run_capture::{Arrival, MOST_OCTETS, Version, read_header, read_record};
 use link_run_feed::Reason;
 
 /// The version of a header, the length of the run, the HDLC rate code and the pointer.
