@@ -17,6 +17,3 @@ mod summary;
 
 pub use call::drill_number;
 pub use summary::{Summary, drill};
-
-#[cfg(test)]
-mod tests;

@@ -16,6 +16,3 @@ pub use laws::{
 };
 pub use run_output::Output;
 pub use send::{line_samples, send_samples};
-
-#[cfg(test)]
-mod tests;

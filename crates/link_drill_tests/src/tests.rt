@@ -1,8 +1,8 @@
 //! Drills whose numbers another program gave.
 ghost use Rattle.std.specs.Prelude.{◌<◌, ◌^◌};
 
-use crate::drill_number;
 use link_base::{MemSink, NoMemory};
+use link_drill::drill_number;
 use link_run_feed::Status;
 use std::alloc::Global;
 use std::test::Fail;

@@ -1,7 +1,7 @@
 // What is sent of files of samples, over files and a sink in memory.
-use crate::{line_samples, send_samples};
 use link_base::{MemShelf, MemSink, NoMemory};
 use link_run_feed::{Status, code};
+use link_run_send::{line_samples, send_samples};
 use std::alloc::Global;
 use std::process::Abort;
 use std::test::Fail;
