@@ -96,16 +96,16 @@ impl LineBuffer {
         &self.octets[self.line..self.start - 1]
     }
 
-    // The octets that are not yet given.
-    fn rest(&self) -> &[u8]
+    /// The octets that are not yet given.
+    pub(crate) fn rest(&self) -> &[u8]
         ensures rest { result.now ≡ self.now.rest }
         ensures fits { length self.now.line + length self.now.rest ≤ 8192 }
     {
         &self.octets[self.start..self.end]
     }
 
-    // Gives the first octets of the rest as a line, whose last is a line feed.
-    fn give(&mut self, len: usize)
+    /// Gives the first octets of the rest.
+    pub(crate) fn give(&mut self, len: usize)
         requires { len ≤ length self.old.rest }
         ensures line { self.new.line ≡ take len self.old.rest }
         ensures rest { self.new.rest ≡ drop len self.old.rest }

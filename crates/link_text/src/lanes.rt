@@ -140,6 +140,23 @@ pub(crate) fn near_feed(octets: &[u8]) -> Option<usize>
     }
 }
 
+/// The same among 16 octets and more, if it is among the first 16.
+#[inline(always)]
+pub(crate) fn nearest_feed(octets: &[u8]) -> Option<usize>
+    requires { 16 ≤ length octets.now }
+    ensures { IfSome result (λ place. IsFirstFeed octets.now place × (place < 16)) }
+{
+    let feeds = u8x16::from_slice(octets)
+        .simd_eq(u8x16::splat(b'\n'))
+        .to_bitmask();
+    let place = feeds.trailing_zeros() as usize;
+    if feeds != 0 && place < 16 {
+        Some(place)
+    } else {
+        None
+    }
+}
+
 /// Puts the digits of octets, letters in lower case.
 pub(crate) fn encode(octets: &[u8], out: &mut [u8])
     requires some { OCTETS ≤ length octets.now }

@@ -18,5 +18,5 @@ pub use laid::Lay;
 pub use laws::{answer_is_exact, answer_is_that_of_the_file, file_is_its_lines};
 pub use lines::{Line, LineReader};
 pub use numbers::{decimal, decimal_is_read_back, put_number, signed, signed_is_read_back};
-pub use pairs::signed_pair;
+pub use pairs::{FrontPair, front_pair, signed_pair};
 pub use text_buffer::TextBuffer;

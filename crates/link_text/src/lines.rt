@@ -1,5 +1,5 @@
 // The lines of a file that is read in pieces.
-ghost use Rattle.std.specs.Prelude.{◌≡◌, Some, None, [], IsTrue, IfOk, IfSome, IfNone};
+ghost use Rattle.std.specs.Prelude.{◌≡◌, ◌≤◌, Some, None, [], IsTrue, IfOk, IfSome, IfNone, length, drop};
 ghost use Rattle.link_base.specs.Shelf.{SameFiles};
 ghost use Rattle.link_text.specs.Lines.{ending_of, Keeps, ShowsEnding};
 
@@ -73,6 +73,23 @@ impl LineReader {
             buffer: LineBuffer::new(alloc)?,
             ended: None,
         })
+    }
+
+    /// The octets that were read and not yet given, at most 8,192.
+    #[inline(always)]
+    pub fn at_hand(&self) -> &[u8]
+        ensures { result.now ≡ self.now.rest }
+    {
+        self.buffer.rest()
+    }
+
+    /// Passes over so many of the octets at hand: those of whole lines, which the caller took from there.
+    #[inline(always)]
+    pub fn pass(&mut self, count: usize)
+        requires { count ≤ length self.old.rest }
+        ensures { self.new ≡ record self.old { rest = drop count self.old.rest } }
+    {
+        self.buffer.give(count);
     }
 
     /// Lends the next line. After any other answer the same comes again, and nothing is read. It takes no memory.

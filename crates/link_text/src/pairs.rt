@@ -8,9 +8,10 @@ ghost use Rattle.core.specs.Slice.Scan.{digits_from, flag_word, little_endian};
 ghost use Rattle.std.specs.Float.Numeral.{digits_len};
 ghost use Rattle.std.specs.Str.Parse.{digits_value};
 ghost use Rattle.link_text.specs.Decimals.{signed_value};
-ghost use Rattle.link_text.specs.Pair.{IsPair};
+ghost use Rattle.link_text.specs.Pair.{IsFrontPair, IsPair};
 
 use crate::fields::at_first_space;
+use crate::lanes::nearest_feed;
 use crate::numbers::signed;
 
 /// The octets of a word.
@@ -175,4 +176,35 @@ pub fn signed_pair(line: &[u8]) -> Option<(i32, i32)>
         Some(pair) => Some(pair),
         None => long_pair(line),
     }
+}
+
+/// Two numbers of a line that stands before others.
+#[derive(Clone, Copy, Debug, PartialEq, Eq)]
+pub struct FrontPair {
+    pub first: i32,
+    pub second: i32,
+    /// How many octets the line has, without its line feed.
+    pub length: usize,
+}
+
+/// The two numbers of the first line of some octets, where the line has fewer than 16 octets, and each number up to seven.
+#[inline(always)]
+pub fn front_pair(octets: &[u8]) -> Option<FrontPair>
+    requires { 16 ≤ length octets.now }
+    ensures { IfSome result (λ found. IsFrontPair octets.now found.first found.second found.length) }
+{
+    let length = nearest_feed(octets)?;
+    let (first, end) = number_in(word_at(octets, 0))?;
+    if octets[end] != b' ' {
+        return None;
+    }
+    let (second, count) = number_in(word_at(octets, end + 1))?;
+    if end + 1 + count != length {
+        return None;
+    }
+    Some(FrontPair {
+        first,
+        second,
+        length,
+    })
 }

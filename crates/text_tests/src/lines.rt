@@ -1,7 +1,10 @@
 //! Lines in pieces and with failures, and numbers and digits at their ends.
 use arrayvec::ArrayVec;
 use link_base::{MemShelf, MemSink, Shelf};
-use link_text::{Line, LineReader, TextBuffer, decimal, octets, put_hex, put_number, signed};
+use link_text::{
+    FrontPair, Line, LineReader, TextBuffer, decimal, front_pair, octets, put_hex, put_number,
+    signed,
+};
 use std::alloc::Global;
 use std::process::Abort;
 use std::test::Fail;
@@ -114,6 +117,23 @@ fn long_lines_and_unended_ones(rt: HostRuntime) {
             compare_lengths(&rt, rt.alloc(), &mut shelf, lengths, last);
         }
     }
+}
+
+#[test]
+fn a_line_of_two_numbers_is_taken_from_the_octets_at_hand(rt: HostRuntime) {
+    let mut shelf = shelf_of(&rt, rt.alloc(), 4096, b"samples 1\n-12 345\n0 7\nend\n");
+    let mut reader = begin(&rt, rt.alloc(), &mut shelf);
+    compare_line(&rt, &mut reader, &mut shelf, b"samples 1");
+    let octets = reader.at_hand();
+    assert!(rt; octets.len() >= 16);
+    let pair = FrontPair {
+        first: -12,
+        second: 345,
+        length: 7,
+    };
+    assert_eq!(rt; front_pair(octets), Some(pair));
+    reader.pass(8);
+    compare_line(&rt, &mut reader, &mut shelf, b"0 7");
 }
 
 /// A text, the most that it may give, and what it gives.

@@ -8,4 +8,4 @@ pub returns-then-place-lt-OCTETS : goal.returns-then-place-lt-OCTETS
 returns-then-place-lt-OCTETS c =
     let octets = c.args.octets.now in
     let mask = bitmask_splat w8 eqb (take 32 octets) 32 10 (length-take-le 32 octets c.requires) (omega arith) in
-    (near_feed octets _ c.requires mask c.if-feeds-ne0.true c.if-place-lt-OCTETS.true, c.if-place-lt-OCTETS.true)
+    (near_feed 32 octets _ (omega arith) c.requires mask c.if-feeds-ne0.true c.if-place-lt-OCTETS.true, c.if-place-lt-OCTETS.true)
