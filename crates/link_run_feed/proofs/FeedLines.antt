@@ -6,7 +6,7 @@ use Rattle.link_base.specs.Faults.{Rose}
 use Rattle.link_base.specs.Shelf.{Shown}
 use Rattle.link_base.specs.Sink.{Taken, AppendsFront}
 use Rattle.link_text.specs.Gathered.{Gathers, BreaksOff}
-use Rattle.link_text.specs.Lines.{lines_of, rest_of, Reading, Gives, GivesNext, Keeps, ShowsEnding, ending_of}
+use Rattle.link_text.specs.Lines.{lines_of, rest_of, with_feeds, IsLine, Reading, Gives, GivesNext, Keeps, ShowsEnding, ending_of}
 use Rattle.link_text.specs.declared.lines.Line.{Line}
 use Rattle.link_text.specs.declared.lines.Line.TheVariants as line
 use Rattle.link_text.specs.declared.lines.Ending.{Ending}
@@ -22,7 +22,7 @@ use Rattle.link_run_feed.specs.Answer.{Answer}
 use Rattle.link_run_feed.specs.Given.{IsGiven}
 use Rattle.link_run_feed.specs.Reasons.{bad_line}
 use Rattle.link_run_feed.specs.Feed.{At, start, in_lines, ended, is_bad, Read, FeedForm, by_line, by_end, by_header, line_step, read_more, read_items, step_at, refused, answer_of, read_on, answer_on, is_good}
-use Rattle.link_run_feed.specs.FeedCalls.{GoesOn, IsStopped, Concludes, after_last}
+use Rattle.link_run_feed.specs.FeedCalls.{GoesOn, IsStopped, Concludes, LeadTo, after_last}
 use Rattle.link_run_feed.proofs.Folds.{IsOpen, in_front, with_front, items_in_front, answer_in_front, answer_grows, answer_on-line, read_on-rest, answer_on-bad, answer_on-unended, answer_on-long, answer_on-after, answer_on-done}
 use Rattle.link_run_feed.proofs.Counting.{given_behind}
 
@@ -336,3 +336,43 @@ module _ {S : Type 0} (form : FeedForm S) (s : S) (number : ℕ) (hand unread : 
       concludes_end may
       (concludes_then form (record { at = ended e; number = number; text = hand ++ settled }) (ended e) number hand' unread unread sink sink1
       (goes_on_gathered form (ended e) number settled hand hand' unread sink sink1 gathers) shelf shelf shelf' sink' result same refl concludes)
+
+-- ---- lines that are read ahead, which settle no text
+
+module _ {S : Type 0} (form : FeedForm S) where
+  -- one line was read, which settles no text
+  one_ahead : (s next : S) (number : ℕ) (hand text after : List ℕ) (sink : Taken) → IsLine text → bytes_eq text (codes "end") ≡ false
+      → form.lines.line s text ≡ Ok (next, [])
+      → GoesOn form (record { at = in_lines s; number = number; text = hand }) (text ++ 10 ∷ after) sink (in_lines next) (number + 1) hand after sink
+  one_ahead s next number hand text after sink is_line other reads =
+      let r : Read S = record { at = in_lines s; number = number; text = hand } in
+      let step = step_good form number text is_line.0 s next [] other reads in record {
+        moved = [];
+        written = appends_none sink;
+        given = text ++ 10 ∷ [];
+        all = sym (append_assoc text (10 ∷ []) after);
+        lines = λ more.
+            ap (λ octets. read_items (step_at form) r (lines_of octets)) (append_assoc text (10 ∷ []) more)
+            ∙ ap (read_items (step_at form) r) (lines_of-line text more is_line.1)
+            ∙ ap (λ q. read_items (step_at form) q (lines_of more)) (step hand)
+            ∙ ap (λ (t : List ℕ). read_items (step_at form) (record { at = in_lines next; number = number + 1; text = t }) (lines_of more)) (append-nil hand);
+        rest = λ more. ap rest_of (append_assoc text (10 ∷ []) more) ∙ rest_of-line text more is_line.1;
+      }
+
+  pub goes_on_ahead : (s next : S) (number : ℕ) (hand : List ℕ) (lines : List (List ℕ)) (after : List ℕ) (sink : Taken) → LeadTo form.lines s lines next
+      → GoesOn form (record { at = in_lines s; number = number; text = hand }) (with_feeds lines ++ after) sink (in_lines next) (number + length lines) hand after sink
+  goes_on_ahead s next number hand [] after sink lead =
+      subst (λ t. GoesOn form (record { at = in_lines s; number = number; text = hand }) after sink (in_lines t) (number + 0) hand after sink) lead
+      (subst (λ n. GoesOn form (record { at = in_lines s; number = number; text = hand }) after sink (in_lines s) n hand after sink) (omega arith)
+      (goes_on_none form (in_lines s) number hand after sink))
+  goes_on_ahead s next number hand (line ∷ lines) after sink lead =
+      let mid = lead.2.0 in
+      let r : Read S = record { at = in_lines s; number = number; text = hand } in
+      let rest = with_feeds lines ++ after in
+      let whole : with_feeds (line ∷ lines) ++ after ≡ line ++ 10 ∷ rest = append_assoc (line ++ 10 ∷ []) (with_feeds lines) after ∙ append_assoc line (10 ∷ []) rest in
+      let count : number + 1 + length lines ≡ number + length (line ∷ lines) = omega arith in
+      subst (λ octets. GoesOn form r octets sink (in_lines next) (number + length (line ∷ lines)) hand after sink) (sym whole)
+      (subst (λ n. GoesOn form r (line ++ 10 ∷ rest) sink (in_lines next) n hand after sink) count
+      (goes_on_then form r (in_lines mid) (in_lines next) (number + 1) (number + 1 + length lines) hand hand (line ++ 10 ∷ rest) rest after sink sink sink
+      (one_ahead s mid number hand line rest sink lead.0 lead.1 lead.2.1)
+      (goes_on_ahead mid next (number + 1) hand lines after sink lead.2.2)))

@@ -1,9 +1,9 @@
 -- What the calls that read a feed do to the text in hand, the sink and the shelf. This is the project's own.
-use Rattle.std.specs.Prelude.{◌≡◌, ◌≢◌, ◌⊎◌, ◌+◌, ◌≤◌, ℕ, Bool, true, List, [], ◌++◌, length, Option, Some, None, Result, Ok, Err}
+use Rattle.std.specs.Prelude.{codes, bytes_eq, ◌≡◌, ◌≢◌, ◌⊎◌, ◌≤◌, ℕ, Bool, true, false, List, [], ◌∷◌, ◌++◌, length, Option, Some, None, Result, Ok, Err}
 use Rattle.link_base.specs.Shelf.{Shown}
 use Rattle.link_base.specs.Sink.{Taken, Appends}
 use Rattle.link_text.specs.Gathered.{Gathers, BreaksOff}
-use Rattle.link_text.specs.Lines.{lines_of, rest_of, longest}
+use Rattle.link_text.specs.Lines.{lines_of, rest_of, longest, with_feeds, IsLine}
 use Rattle.link_run_feed.specs.declared.reason.Reason.{Reason}
 use Rattle.link_run_feed.specs.declared.feed.Reading.{Reading}
 use Rattle.link_run_feed.specs.declared.feed.Reading.TheVariants.{Good, Bad}
@@ -26,6 +26,21 @@ IsEnded form s ended hand sink hand' sink' = ended (form.ending s).0 × Gathers 
 abbrev pub IsReadAs : {S : Type 0} → Result (S × List ℕ) Reason → Reading → (S → Type 0) → List ℕ → Taken → List ℕ → Taken → Type 0
 IsReadAs {S} line Good stands hand sink hand' sink' = (next : S) × (settled : List ℕ) × (line ≡ Ok (next, settled)) × stands next × Gathers settled hand sink hand' sink'
 IsReadAs line (Bad reason) stands hand sink hand' sink' = (line ≡ Err reason) × (hand' ≡ hand) × (sink' ≡ sink)
+
+-- Good lines, none of them the last one, that lead from one state to another and settle no text.
+abbrev pub LeadTo : {S : Type 0} → LineForm S → S → List (List ℕ) → S → Type 0
+LeadTo form s [] next = s ≡ next
+LeadTo {S} form s (line ∷ lines) next =
+    IsLine line × (bytes_eq line (codes "end") ≡ false) × ((mid : S) × (form.line s line ≡ Ok (mid, [])) × LeadTo form mid lines next)
+
+-- The octets are so many lines of this kind. What the feed keeps stands for the state after them.
+pub record ReadsAhead {S : Type 0} (form : LineForm S) (s : S) (octets : List ℕ) (count : ℕ) (stands : S → Type 0) : Type 0 where
+  pub lines : List (List ℕ)
+  pub octets_are : octets ≡ with_feeds lines
+  pub as_many : count ≡ length lines
+  pub next : S
+  pub lead : LeadTo form s lines next
+  pub stands_for : stands next
 
 -- The line was good, and its text could not be written whole.
 abbrev pub BreaksOffAt : {S : Type 0} → Result (S × List ℕ) Reason → List ℕ → Taken → Taken → Type 0

@@ -1,9 +1,9 @@
 // A feed: a file that is read, and answered, line by line.
-ghost use Rattle.std.specs.Prelude.{◌≡◌, ◌+◌, ◌^◌, ◌<◌, ◌≤◌, ℕ, List, length, Option, IsTrue, IfOk, IfSome, OnOk, OnErr};
+ghost use Rattle.std.specs.Prelude.{◌≡◌, ◌+◌, ◌^◌, ◌<◌, ◌≤◌, ℕ, List, length, take, Option, IsTrue, IfOk, IfSome, OnOk, OnErr};
 ghost use Rattle.link_base.specs.Faults.{HasCause};
 ghost use Rattle.link_text.specs.Gathered.{Gathers, BreaksOff};
 ghost use Rattle.link_run_feed.specs.Feed.{LineForm};
-ghost use Rattle.link_run_feed.specs.FeedCalls.{IsOpened, IsEnded, IsReadAs, BreaksOffAt};
+ghost use Rattle.link_run_feed.specs.FeedCalls.{IsOpened, IsEnded, IsReadAs, BreaksOffAt, ReadsAhead};
 
 use crate::reason::Reason;
 use link_base::{Failed, NoMemory, Sink};
@@ -17,6 +17,23 @@ pub enum Reading {
     Good,
     /// No line of the form.
     Bad(Reason),
+}
+
+/// What was read of the octets at hand.
+#[derive(Clone, Copy, Debug, PartialEq, Eq)]
+pub struct Ahead {
+    /// The octets of the lines that were read, with their line feeds.
+    pub octets: usize,
+    /// How many lines they are.
+    pub lines: u64,
+}
+
+impl Ahead {
+    /// No line was read.
+    pub const NOTHING: Ahead = Ahead {
+        octets: 0,
+        lines: 0,
+    };
 }
 
 /// A feed whose header was read, as far as its lines are read.
@@ -68,6 +85,15 @@ pub trait Feed: Drop {
     /// Whether the last line, `end`, may come.
     fn may_end(&self) -> bool
         ensures { (s : State) → stands self.now s → result ≡ lines.may_end s };
+
+    /// Reads good lines that stand at the front of these octets and settle no text: as many as it likes, or none.
+    fn read_ahead(&mut self, octets: &[u8]) -> Ahead
+        ensures within { result.octets ≤ length octets.now }
+        ensures reads { (s : State) → stands self.old s → ReadsAhead lines s (take result.octets octets.now) result.lines (stands self.new) }
+        ensures fewer { lines_left self.new + result.lines ≤ lines_left self.old }
+    {
+        Ahead::NOTHING
+    }
 
     /// Reads a line without its line feed, and appends the text that it settles. No text is appended where the line is bad.
     /// The feed is of no more use then, nor after an `Err`, where a front of the text was written.

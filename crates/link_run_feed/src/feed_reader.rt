@@ -1,6 +1,7 @@
 // Reads a feed from its header to its end, or to its first bad line.
 ghost use Rattle.std.specs.Prelude.{◌≡◌, ◌≢◌, ◌+◌, ◌^◌, ◌<◌, ◌≤◌, ◌++◌, ℕ, List, [], length, Option, None, IsTrue, IfSome, IfNone, MatchOption, Bool};
 ghost use Rattle.link_base.specs.Shelf.{SameFiles};
+ghost use Rattle.link_base.specs.Sink.{Taken};
 ghost use Rattle.link_run_feed.specs.FaultCounts.{FaultCounts, CountsReads};
 ghost use Rattle.link_run_feed.specs.Course.{on_feed};
 ghost use Rattle.link_run_feed.specs.Feed.{ended, in_lines, begun};
@@ -129,6 +130,20 @@ fn read_line<F: Feed, H: Shelf, K: Sink>(
     }
 }
 
+// Reads lines that are at hand and settle no text, and says how many.
+#[inline(always)]
+fn read_ahead<F: Feed>(feed: &mut F, reader: &mut LineReader) -> u64
+    ensures ended { reader.new.ended ≡ reader.old.ended }
+    ensures fewer { F.lines_left feed.new + result ≤ F.lines_left feed.old }
+    ensures goes_on { (header : List ℕ → Option (F.State × List ℕ)) (s : F.State) (number : ℕ) (hand left : List ℕ) (sink : Taken) → F.stands feed.old s
+        → (next : F.State) × F.stands feed.new next × GoesOn (form_with header F.lines) (record { at = in_lines s; number = number; text = hand }) (reader.old.rest ++ left) sink
+        (in_lines next) (number + result) hand (reader.new.rest ++ left) sink }
+{
+    let ahead = feed.read_ahead(reader.at_hand());
+    reader.pass(ahead.octets);
+    ahead.lines
+}
+
 // Reads the lines after the header, which was line 1, to the end of the feed or to its first bad line.
 fn read_lines<F: Feed, H: Shelf, K: Sink>(
     feed: &mut F,
@@ -149,6 +164,7 @@ fn read_lines<F: Feed, H: Shelf, K: Sink>(
 {
     let mut number = 1;
     loop {
+        number += read_ahead(feed, reader);
         match read_line(feed, number, reader, text, shelf, out) {
             None => number += 1,
             Some(status) => return status,

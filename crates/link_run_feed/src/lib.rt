@@ -7,7 +7,7 @@ mod reason;
 mod status;
 mod written;
 
-pub use feed::{Feed, Reading};
+pub use feed::{Ahead, Feed, Reading};
 pub use feed_reader::read_feed;
 pub use reason::Reason;
 pub use status::{Status, code};
