@@ -11,18 +11,36 @@ pub fn first_outside(samples: &[RawIq], m: u32) -> Option<usize>
     requires { IsSampleWidth m }
     ensures { MatchOption result (All (IsWithin m) samples.now) (λ r. IsFirstOutside m samples.now r) }
 {
+    if are_within(samples, m) {
+        return None;
+    }
     samples.iter().position(|sample| !is_within(*sample, m))
 }
 
+// Whether all have `m` bits. No sample decides what is done with the next, so that many are looked at at once.
+#[inline(always)]
+fn are_within(samples: &[RawIq], m: u32) -> bool
+    requires { IsSampleWidth m }
+    ensures { IsTrue result → All (IsWithin m) samples.now }
+{
+    let mut within = true;
+    for sample in samples {
+        within &= is_within(*sample, m);
+    }
+    within
+}
+
 // Whether I and Q have `m` bits each.
+#[inline(always)]
 fn is_within(sample: RawIq, m: u32) -> bool
     requires { IsSampleWidth m }
     ensures { IsTrue result ↔ IsWithin m sample }
 {
-    fits(sample.i, m) && fits(sample.q, m)
+    fits(sample.i, m) & fits(sample.q, m)
 }
 
 // Whether the value has `width` bits.
+#[inline(always)]
 fn fits(value: i32, width: u32) -> bool
     requires least { 1 ≤ width }
     requires most { width ≤ 31 }
