@@ -28,3 +28,5 @@ pub mod VersionLines
 pub mod WholeTexts
 pub mod WrittenOnce
 pub mod FrameWords
+pub mod AheadLines
+pub mod AheadStates

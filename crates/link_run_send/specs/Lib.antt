@@ -11,3 +11,4 @@ pub mod RunText
 pub mod SendsFile
 pub mod WholeText
 pub mod FrameWord
+pub mod Ahead

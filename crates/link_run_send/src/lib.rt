@@ -1,6 +1,7 @@
 //! The calls `send` and `line`: the packets of a file of samples, or their symbols on the line.
 #![tactic(auto)]
 
+mod ahead;
 mod due;
 mod laws;
 mod run_output;

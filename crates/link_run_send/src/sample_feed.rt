@@ -11,7 +11,7 @@ use crate::run_output::{Output, put_first_line, put_last_line};
 use crate::sample_run::{SampleRun, Sending};
 use link_base::{Failed, NoMemory, Sink};
 use link_run_capture::{RunFile, Version, read_run_header};
-use link_run_feed::{Feed, Reading, Reason};
+use link_run_feed::{Ahead, Feed, Reading, Reason};
 use link_text::TextBuffer;
 use plan_checker::{Checked, octets_of_word};
 use std::alloc::Global;
@@ -73,6 +73,10 @@ impl Feed for SampleRun {
 
     fn may_end(&self) -> bool {
         self.due.tick == self.header.run_ticks
+    }
+
+    fn read_ahead(&mut self, octets: &[u8]) -> Ahead {
+        self.read_samples(octets)
     }
 
     fn read<K: Sink>(

@@ -47,8 +47,8 @@ const QUEUE: usize = 8192;
 /// More lines than the longest run has.
 const LINES: u64 = 1 << 40;
 
-// Hands in the samples of carrier `c` that are due, each of the carrier's bits.
-fn hand_over(sender: &mut AnySender, c: usize, samples: &[RawIq])
+/// Hands in the samples of carrier `c` that are due, each of the carrier's bits.
+pub fn hand_over(sender: &mut AnySender, c: usize, samples: &[RawIq])
     requires carrier { c < length sender.old.plan.carriers }
     requires run { sender.old.tick < sender.old.frames }
     requires due { length samples.now ≡ samples_due sender.old.plan c sender.old.tick }
