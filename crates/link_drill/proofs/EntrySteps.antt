@@ -40,7 +40,7 @@ module _ (p : Plan) (Y : ℕ) (is : IsDrillPlan p Y) (h : ℕ) (records : List R
   unfolding entries_of
   all_of t c = all_by t c (slice_get p.carriers c) refl
 
-  all_at : (t : ℕ) → All IsOfRun (entries_at p h records t)
+  pub all_at : (t : ℕ) → All IsOfRun (entries_at p h records t)
   unfolding entries_at
   all_at t = All-flat_map IsOfRun (entries_of p h records t) 0 (length p.carriers) (λ c _ _. all_of t c)
 

@@ -6,5 +6,6 @@ pub mod FateSteps
 pub mod SendSteps
 pub mod PlaySteps
 pub mod EntrySteps
+pub mod TallySteps
 pub mod SummarySteps
 pub mod RunFacts

@@ -103,6 +103,13 @@ all_later packets fates t n =
 
 -- ---- the entries
 
+-- what a session lists after tick t are the entries of that tick
+pub listed-is : (p q : Plan) (h frames tick t : ℕ) (records : List Record) (listed : List Entry) → q ≡ p → frames ≡ h → tick ≡ t + 1
+    → listed ≡ entries_before q frames records tick → listed ≡ entries_at p h records t
+listed-is p q h frames tick t records listed plan many now is =
+    let before : entries_before p h records (t + 1) ≡ entries_at p h records t = rw add-one refl in
+    is ∙ ap (λ (r : Plan). entries_before r frames records tick) plan ∙ ap (λ k. entries_before p k records tick) many ∙ ap (entries_before p h records) now ∙ before
+
 module _ (p : Plan) (h n : ℕ) (packets : List (List ℕ)) (fates : List Fate) where
   -- The entries of a tick are those of the whole run's records.
   entries-whole : EntriesAreSettled → IsGood p → (t : ℕ) → t < n → entries_at p h (arrivals_below packets fates (t + 1)) t ≡ entries_at p h (arrivals_below packets fates n) t
@@ -112,21 +119,16 @@ module _ (p : Plan) (h n : ℕ) (packets : List (List ℕ)) (fates : List Fate) 
       sym (settled p h t (arrivals_below packets fates (t + 1)) (later_from packets fates (t + 1) rest) good (all_later packets fates t rest))
       ∙ ap (λ (records : List Record). entries_at p h records t) (sym (arrivals_below-split packets fates (t + 1) rest) ∙ ap (arrivals_below packets fates) whole)
 
-  entries-before : (t : ℕ) (records : List Record) → entries_before p h records (t + 1) ≡ entries_at p h records t
-  entries-before t records = rw add-one refl
-
-  pub entries-more : EntriesAreSettled → IsGood p → (t : ℕ) (entries new listed : List Entry) → t < n
-      → entries ≡ entries_below p h (arrivals_below packets fates n) t
-      → listed ≡ entries_before p h (arrivals_below packets fates t ++ arrivals_at packets fates t) (t + 1)
-      → new ≡ entries ++ listed → new ≡ entries_below p h (arrivals_below packets fates n) (t + 1)
-  entries-more settled good t entries new listed less before is made =
+  pub entries-more : EntriesAreSettled → IsGood p → (t : ℕ) (listed : List Entry) → t < n
+      → listed ≡ entries_at p h (arrivals_below packets fates t ++ arrivals_at packets fates t) t
+      → entries_below p h (arrivals_below packets fates n) t ++ listed ≡ entries_below p h (arrivals_below packets fates n) (t + 1)
+  entries-more settled good t listed less is =
       let R = arrivals_below packets fates n in
       let f : ℕ → List Entry = entries_at p h R in
       let here : 0 + t ≡ t = omega arith in
       let now : listed ≡ f t =
-      is ∙ ap (λ (records : List Record). entries_before p h records (t + 1)) (sym (arrivals_below-more packets fates t))
-      ∙ entries-before t (arrivals_below packets fates (t + 1)) ∙ entries-whole settled good t less in
-      made ∙ ap (λ (xs : List Entry). xs ++ listed) before ∙ ap (λ (xs : List Entry). entries_below p h R t ++ xs) now
+      is ∙ ap (λ (records : List Record). entries_at p h records t) (sym (arrivals_below-more packets fates t)) ∙ entries-whole settled good t less in
+      ap (λ (xs : List Entry). entries_below p h R t ++ xs) now
       ∙ sym (ap (flat_map f) (range_more 0 t) ∙ flat_map-append f (range_with_len 0 t) ((0 + t) ∷ [])
       ∙ ap (λ xs. flat_map f (range_with_len 0 t) ++ xs) (append-nil (f (0 + t)) ∙ ap f here))
 

@@ -6,5 +6,6 @@ pub mod Sent
 pub mod Arrivals
 pub mod InRun
 pub mod Summary
+pub mod Tally
 pub mod Text
 pub mod Course

@@ -14,6 +14,7 @@ mod playing;
 mod run_plan;
 mod sending;
 mod summary;
+mod tally;
 
 pub use call::drill_number;
 pub use summary::{Summary, drill};

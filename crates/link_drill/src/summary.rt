@@ -1,11 +1,9 @@
 // A drill and what it gives.
-ghost use Rattle.std.specs.Prelude.{◌≡◌, ◌*◌, ◌<◌, ◌≤◌, ◌^◌, All, IfOk, length};
+ghost use Rattle.std.specs.Prelude.{◌≡◌, ◌*◌, ◌<◌, ◌^◌, All, IfOk, length};
 ghost use Rattle.plan_checker.specs.WordSize.{IsLineOption, word_size};
 ghost use Rattle.sample_bits.specs.Samples.{IsWithin};
 ghost use Rattle.link_drill.specs.DrillPlan.{drill_plan};
-ghost use Rattle.link_drill.specs.DrillStream.{drawn_place, drill_stream};
-ghost use Rattle.link_drill.specs.InRun.{IsInRun};
-ghost use Rattle.link_drill.specs.Summary.{entries_by, equal_in, is_equal, marked_in, summary_by, summary_of};
+ghost use Rattle.link_drill.specs.Summary.{entries_by, summary_by, summary_of};
 
 use crate::draws::Generator;
 use crate::fates::{Fate, count_lost, count_repeated, draw_fates};
@@ -13,7 +11,6 @@ use crate::playing::play;
 use crate::run_plan::{PACKETS, TICKS, checked_plan};
 use crate::sending::send;
 use link_base::NoMemory;
-use link_receiver::Entry;
 use plan_checker::Checked;
 use sample_bits::RawIq;
 use std::alloc::Global;
@@ -35,53 +32,6 @@ pub struct Summary {
     pub repeated: u64,
 }
 
-// Where the sample of an entry stands among those that were drawn.
-fn place_of(entry: &Entry, words: usize) -> usize
-    requires words { words ≤ 16 }
-    requires run { IsInRun words 256 entry.now }
-    ensures value { result ≡ drawn_place words entry.now.carrier entry.now.number }
-    ensures within { result < 4 * (256 * words) }
-{
-    let first = entry.number / 4 * words as u64 + u64::from(entry.carrier);
-    (4 * first + entry.number % 4) as usize
-}
-
-// Whether an entry has its sample's value.
-fn is_equal(entry: &Entry, drawn: &[RawIq], words: usize) -> bool
-    requires words { words ≤ 16 }
-    requires drawn { length drawn.now ≡ 4 * (256 * words) }
-    requires run { IsInRun words 256 entry.now }
-    ensures { result ≡ is_equal (drill_stream words 256 drawn.now) entry.now }
-{
-    let sample = drawn[place_of(entry, words)];
-    match entry.value {
-        Some(value) => value == sample,
-        None => false,
-    }
-}
-
-// How many entries have their samples' values.
-fn count_equal(entries: &[Entry], drawn: &[RawIq], words: usize) -> u64
-    requires words { words ≤ 16 }
-    requires drawn { length drawn.now ≡ 4 * (256 * words) }
-    requires run { All (IsInRun words 256) entries.now }
-    ensures { result ≡ equal_in (drill_stream words 256 drawn.now) entries.now }
-{
-    let mut equal = 0;
-    for entry in entries {
-        if is_equal(entry, drawn, words) {
-            equal += 1;
-        }
-    }
-    equal
-}
-
-fn count_marked(entries: &[Entry]) -> u64
-    ensures { result ≡ marked_in entries.now }
-{
-    entries.iter().filter(|entry| entry.value.is_none()).count() as u64
-}
-
 // Sends the drawn samples, plays the packets as their fates say, and counts.
 fn summarize(
     alloc: Global,
@@ -97,14 +47,13 @@ fn summarize(
     ensures { IfOk result (λ summary. summary ≡ summary_by checked.now.option (word_size checked.now.option) drawn.now fates.now
         (entries_by checked.now (word_size checked.now.option) drawn.now fates.now)) }
 {
-    let words = checked.word_octets();
     let packets = send(alloc, checked, drawn)?;
-    let entries = play(alloc, checked, &packets, fates)?;
+    let tally = play(alloc, checked, drawn, &packets, fates)?;
     Ok(Summary {
         option: checked.plan().option,
-        samples: entries.len() as u64,
-        equal: count_equal(&entries, drawn, words),
-        marked: count_marked(&entries),
+        samples: tally.samples,
+        equal: tally.equal,
+        marked: tally.marked,
         lost: count_lost(fates),
         repeated: count_repeated(fates),
     })

@@ -1,7 +1,7 @@
 use Rattle.std.proofs.Common.{◌≡◌, ◌≤◌, take}
 use Rattle.link_drill.specs.DrillStream.{drill_stream}
 use Rattle.link_drill.specs.Summary.{equal_in}
-use Rattle.link_drill.proofs.summary.count_equal.Given as goal
+use Rattle.link_drill.proofs.tally.count_equal.Given as goal
 
 -- those of the first entries
 abbrev pub invariant-loop-entry : goal.invariant-loop-entry

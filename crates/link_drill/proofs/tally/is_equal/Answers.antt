@@ -2,7 +2,7 @@ use Rattle.std.proofs.Common.{◌∙◌, sym, ap, get_or}
 use Rattle.link_sender.specs.Senders.{zero_sample}
 use Rattle.link_drill.specs.Summary.{is_same}
 use Rattle.link_drill.proofs.SummarySteps.{equal_by}
-use Rattle.link_drill.proofs.summary.is_equal.Goals as goal
+use Rattle.link_drill.proofs.tally.is_equal.Goals as goal
 
 pub returns-in-Some : goal.returns-in-Some
 returns-in-Some c =
