@@ -33,9 +33,15 @@ enum Sized {
 }
 
 /// A run of a plan in words of whatever size its line option has. Its calls are those of `Session`.
-#[derive(Drop)]
 pub struct AnySession {
     session: Sized,
+}
+
+// By hand, so that a session is let go by a call, and not part by part in the proof of whoever holds one.
+impl Drop for AnySession {
+    fn drop(self) {
+        let AnySession { session: _ } = self;
+    }
 }
 
 impl Model for AnySession {

@@ -35,9 +35,15 @@ enum Sized {
 }
 
 /// A run of a plan in words of whatever size its line option has. Its calls are those of `Sender`.
-#[derive(Drop)]
 pub struct AnySender {
     sender: Sized,
+}
+
+// By hand, so that a sender is let go by a call, and not part by part in the proof of whoever holds one.
+impl Drop for AnySender {
+    fn drop(self) {
+        let AnySender { sender: _ } = self;
+    }
 }
 
 impl Model for AnySender {
